@@ -3,7 +3,7 @@
 
     python3 tools/closures.py [ROOT]
 
-A running call hands its caller's closure on to `playing`, which calls it where the call of the model stands at that. What types and clauses
+A running call hands its caller's closure on to `running_model`, which calls it where the call of the model stands at that. What types and clauses
 leave open is told by lines: a closure of the library's own, handed on in its place; a closure that a body calls; how a pass comes to a step,
 said by the body itself; a step that no turn makes. Each such line stands in tools/closures.txt, with what it is for. Prints those that do not, and those of the
 list that are gone, and then how many there are. The status is 0 where both agree.
@@ -13,16 +13,18 @@ import re
 import sys
 
 LITERAL = re.compile(r"(?:^|[(,=&]\s*|\bmove )\|[^|]*\|")
-CALLED = re.compile(r"(?<![\w.:])(?:passes::wake|wait|wakeup|wake|wake_one|wake_all|mtx_wait|mtx_wake_one|leave|act|f|make|choose)\)?\(|::call\w*\(")
+CALLED = re.compile(r"(?<![\w.:])(?:running_passes::wake|wait|wakeup|wake|wake_one|wake_all|mtx_wait|mtx_wake_one|leave|act|f|make|choose)\)?\(|::call\w*\(")
 # A step on a table or on words that is no turn's: a turn's names the rule or the object first.
 STEP = re.compile(r"(?:\.|::)(?:load|look|store|swap|fetch_\w+|compare_exchange\w*|\w+_new_seat)::<(?!_,)")
 SAID = re.compile(r"(?<!fn )\bspend\(|\bBy::<|::<(?:\w+, )*Brand\b|^impl\b.*\bWay<")
 COMING = re.compile(r"^ghost coming = \{ (?:λ \w+\. )?(\w+)")
+# What the running types share or hand in, which has no call of a model.
+SHARED = {"running_passes", "running_tallies", "running_sharing", "running_closures"}
 BEGINS = ("Beginning", "Continuing", "Choosing")
 
 
 def tells(line, is_playing):
-    """Whether the line has such a thing. `playing` is what gives the ways to a step."""
+    """Whether the line has such a thing. `running_model` is what gives the ways to a step."""
     coming = COMING.match(line)
     if coming:
         return not is_playing and coming[1] not in BEGINS
@@ -32,11 +34,11 @@ def tells(line, is_playing):
 
 
 def found(root):
-    """Each such line of the running types and of `playing`, as `crate/src/file: line`."""
-    for folder in ("running_*", "job_queue", "playing"):
-        for file in sorted(it for it in root.glob(f"crates/{folder}/src/**/*.rt") if "running_tests" not in it.parts):
+    """Each such line of the running types and of `running_model`, as `crate/src/file: line`."""
+    for folder in ("running_*", "job_queue"):
+        for file in sorted(it for it in root.glob(f"crates/{folder}/src/**/*.rt") if not SHARED.intersection(it.parts)):
             for line in map(str.strip, file.read_text().split("\n")):
-                if tells(line, folder == "playing"):
+                if tells(line, "running_model" in file.parts):
                     yield f"{file.relative_to(root / 'crates')}: {line}"
 
 

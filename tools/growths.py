@@ -34,18 +34,18 @@ TESTED = {
     "sync_steps Machine::new": "a_machine_that_finds_no_memory",
     "sync_steps play": "events_that_find_no_memory",
     # What the running types are made of: each `new` above is one of these.
-    "passes Words::new": "an_atomic_that_finds_no_memory",
-    "playing Stage::new": "a_mutex_that_finds_no_memory",
+    "running_passes Words::new": "an_atomic_that_finds_no_memory",
+    "running_model Stage::new": "a_mutex_that_finds_no_memory",
 }
 
 # The libraries of the programs, whose calls take memory of the system alone. `./test streams` sweeps the limit of each program.
 SWEPT = {
-    *("sync_lines", "sync_advice", "sync_trace", "sync_search", "sync_explore", "sync_client"),
-    *("markup", "draw_shapes", "sync_story", "draw_layout", "draw_parts", "sync_draw"),
+    *("text_lines", "text_advice", "text_trace", "explore_search", "explore_text", "explore_client"),
+    *("draw_markup", "draw_shapes", "draw_story", "draw_layout", "draw_parts", "draw_text"),
 }
 
 # Programs that nobody calls, and tests.
-APART = re.compile(r".*_tests|.*_main|sync_bench|bench_.*|storm|two_threads|spin_counter|four_meet|patient_writer|shared_cache|shared_sum|.*_pool|closures")
+APART = re.compile(r"test_.*|demo_.*|.*_main|sync_bench|bench_.*|running_closures")
 
 FUNCTION = re.compile(r"^ *pub fn (\w+)", re.M)
 OWNER = re.compile(r"^impl\b(?:<.*>)? (?:[\w:]+(?:<.*>)? for )?(\w+)", re.M)

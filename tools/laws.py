@@ -4,7 +4,7 @@ primitives' definitions, and for each import that is planted to try this: 'ok', 
 import glob
 import re
 
-IMPORT = re.compile(r"^(?:unfoldable )?(?:pub )?use Rattle\.(steps_\w+)\.specs\.(\S+?)(?:\.\{(.*)\})?(?: as \w+)?$", re.MULTILINE)
+IMPORT = re.compile(r"^(?:unfoldable )?(?:pub )?use Rattle\.(model_\w+)\.specs\.(\S+?)(?:\.\{(.*)\})?(?: as \w+)?$", re.MULTILINE)
 
 
 def imports(text):
@@ -21,7 +21,7 @@ def imports(text):
 def wrong(file, text):
     """What the file takes over that it has to tell by itself: a law from a table all but the table, a table from a law anything."""
     for crate, module, names in imports(text):
-        if crate == "steps_events" or module.startswith("declared."):
+        if crate == "model_events" or module.startswith("declared."):
             continue
         if file.endswith("/Table.antt"):
             if module != "Table":
@@ -36,15 +36,15 @@ def report(label, said):
     print(f"{label}: {said}" if said else "ok")
 
 
-for path in sorted(set(glob.glob("crates/steps_*/specs/**/*.antt", recursive=True)) - set(glob.glob("crates/steps_*/specs/Names.antt"))):
+for path in sorted(set(glob.glob("crates/model_*/specs/**/*.antt", recursive=True)) - set(glob.glob("crates/model_*/specs/Names.antt"))):
     report(path, wrong(path, open(path, encoding="utf-8").read()))
 
 PLANTED = [
-    ("a/Law.antt", "steps_rw_writer.specs.Table.{lets_mark, rw_writer_table}"),
-    ("a/Marks.antt", "steps_rw_writer.specs.Table.{is_mark as is_one_more}"),
-    ("a/Law.antt", "steps_rw_writer.specs.Table as table"),
-    ("a/Table.antt", "steps_rw_writer.specs.Rounds.{with_arrival}"),
-    ("a/Law.antt", "steps_condvar.specs.Names.{mutex_begins}"),
+    ("a/Law.antt", "model_rw_writer.specs.Table.{lets_mark, rw_writer_table}"),
+    ("a/Marks.antt", "model_rw_writer.specs.Table.{is_mark as is_one_more}"),
+    ("a/Law.antt", "model_rw_writer.specs.Table as table"),
+    ("a/Table.antt", "model_rw_writer.specs.Rounds.{with_arrival}"),
+    ("a/Law.antt", "model_condvar.specs.Names.{mutex_begins}"),
 ]
 for path, module in PLANTED:
     said = wrong(path, f"use Rattle.std.specs.Prelude.{{ℕ}}\nuse Rattle.{module}\n")

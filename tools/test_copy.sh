@@ -1,6 +1,6 @@
 # What copies the library into another repository: a lock with what it stands on alone, their lines, and nothing twice.
 test_copy() {
-    local to=$room/copy names="passes playing running_once steps_events steps_once"
+    local to=$room/copy names="model_events model_once running_model running_once running_passes"
     attempt tools/copy-library "$to" once
     judge_line "a once" 0 "copied: 5 crates" ""
     ls -- "$to/crates" >"$room/names"
@@ -9,7 +9,7 @@ test_copy() {
     attempt grep -cxFf "$to/crates.txt" crates.txt
     judge_line "their lines" 0 5 ""
     attempt tools/copy-library "$to" once
-    judge_line "a once that stands there" 1 "copied: 0 crates; left as they stand: steps_events steps_once passes playing running_once" ""
+    judge_line "a once that stands there" 1 "copied: 0 crates; left as they stand: model_events model_once running_passes running_model running_once" ""
     attempt tools/copy-library "$to" mutexes
     judge_line "no lock" 1 "" "copy-library: there is no crate mutexes, nor one of a lock of that name"
 }

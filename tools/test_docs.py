@@ -38,9 +38,10 @@ def quoted(page, stem, endings=("txt", "out", "err")):
 
 
 def asked(stem):
-    """Whether the explorer's page shows the question with its answer, as they are, or has a row of it, with links to both."""
+    """Whether the explorer's page shows the question with its answer, as they are, or has a row of it, with links to both: of a fault to the advice."""
     page, name = "docs/EXPLORE.md", os.path.basename(stem)
-    rows = [row for row in TEXTS[page].splitlines() if row.startswith(f"| [{name}](../{stem}.txt): [answer](../{stem}.out) |")]
+    answer = f"[fault](../{stem}.advice)" if read(f"{stem}.err") else f"[answer](../{stem}.out)"
+    rows = [row for row in TEXTS[page].splitlines() if row.startswith(f"| [{name}](../{stem}.txt): {answer} |")]
     if len(rows) > 1:
         return f"{page} has {len(rows)} rows of it"
     if not rows:
@@ -136,7 +137,7 @@ for text in sorted(glob.glob("examples/*.txt")):
     if text in TEXTS["README.md"]:
         report(stem, quoted("README.md", stem))
     if text in TEXTS["docs/TRACE.md"]:
-        report(stem, quoted("docs/TRACE.md", stem, ("txt", "trace")))
+        report(stem, quoted("docs/TRACE.md", stem, ("trace",)))
 
 for text in sorted(glob.glob("examples/explore/*.txt")):
     report(text, asked(text.removesuffix(".txt")))

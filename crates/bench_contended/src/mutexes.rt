@@ -1,6 +1,6 @@
 //! The mutex, by how one waits; and the kit's.
 ghost use Rattle.std.specs.Prelude.{◌≡◌};
-ghost use Rattle.steps_events.specs.declared.WaitAction.TheVariants as actions;
+ghost use Rattle.model_events.specs.declared.WaitAction.TheVariants as actions;
 ghost use Rattle.running_mutex.specs.MutexShown.{IsMutexPass, HasStayed};
 
 use crate::race::Contended;

@@ -2,10 +2,10 @@
 use crate::terms::{Shown, band_name, say_value, shown_of};
 use crate::value::DataWords;
 use crate::width::text_width;
+use draw_story::story::Story;
 use std::alloc::{AllocError, Global};
-use sync_lines::integer::TextInteger;
 use sync_steps::steps::{Act, Object, Word};
-use sync_story::story::Story;
+use text_lines::integer::TextInteger;
 
 /// How wide a band is at least.
 const LEAST_BAND: u32 = 70;

@@ -1,12 +1,12 @@
 //! A step in words, and how it is marked.
 use crate::terms::{name_of, say_value};
 use crate::value::{DataWords, ends_a_value};
+use draw_story::story::{Step, Story};
 use std::alloc::{AllocError, Global};
-use sync_lines::integer::TextInteger;
 use sync_play::print::print_answer;
 use sync_steps::WaitAction;
 use sync_steps::steps::{Act, Answer, Object, Then, Wake, Word};
-use sync_story::story::{Step, Story};
+use text_lines::integer::TextInteger;
 
 /// How a step is marked.
 #[derive(Clone, Copy, PartialEq, Eq)]

@@ -3,11 +3,11 @@ ghost use Rattle.std.specs.Prelude.{◌<◌, ◌^◌, IfOk};
 
 use crate::label::{Reach, Tone, label_of, outcome_of, reach_of, tone_of};
 use crate::width::text_width;
+use draw_story::story::{Step, Story};
+use model_events::hold::HoldKind;
 use std::alloc::{AllocError, Global};
-use steps_events::hold::HoldKind;
-use sync_lines::integer::TextInteger;
 use sync_steps::steps::{Act, Then};
-use sync_story::story::{Step, Story};
+use text_lines::integer::TextInteger;
 
 /// How wide the box of a call is at least.
 const LEAST_BOX: u32 = 130;

@@ -8,10 +8,10 @@ use crate::band::{Band, bands_of, bands_right};
 use crate::lane::{Lane, Span, lanes_of, lanes_right};
 use crate::terms::shown_at;
 use crate::width::text_width;
+use draw_story::story::Story;
 use std::alloc::{AllocError, Global};
-use sync_lines::integer::TextInteger;
 use sync_steps::steps::Word;
-use sync_story::story::Story;
+use text_lines::integer::TextInteger;
 
 /// Where the first row begins.
 const FIRST: u64 = 36;

@@ -1,6 +1,6 @@
 //! What the values of an object's words mean, in its own terms: a row for each object.
+use model_barrier::{count_of, epoch_of};
 use std::alloc::AllocError;
-use steps_barrier::{count_of, epoch_of};
 use sync_steps::steps::{Object, Word};
 
 /// What a band shows.

@@ -1,7 +1,7 @@
 //! The value of an atomic, which its two data words have together.
-use sync_lines::integer::TextInteger;
+use draw_story::story::Story;
 use sync_steps::steps::{Act, Word};
-use sync_story::story::Story;
+use text_lines::integer::TextInteger;
 
 /// The two data words of an atomic.
 #[derive(Clone, Copy)]

@@ -3,11 +3,11 @@ ghost use Rattle.std.specs.Prelude.{◌<◌, ◌^◌, IfOk};
 
 use crate::signs::signs_of;
 use draw_layout::layout::Layout;
+use draw_markup::markup::Markup;
 use draw_shapes::legend::{draw_legend, legend_height};
 use draw_shapes::shape::put_text;
-use markup::markup::Markup;
+use draw_story::story::{MOST_STEPS, Story};
 use std::alloc::{AllocError, Global};
-use sync_story::story::{MOST_STEPS, Story};
 
 /// How high the notes below the rows are.
 const NOTES_HEIGHT: u64 = 64;

@@ -4,11 +4,11 @@ use crate::foot::height_of;
 use crate::lane::draw_lanes;
 use crate::schedule::draw_schedule;
 use draw_layout::layout::Layout;
+use draw_markup::markup::Markup;
 use draw_shapes::shape::{put, put_shape, put_text, rect, title_of};
 use draw_shapes::style::draw_style;
-use markup::markup::Markup;
+use draw_story::story::Story;
 use std::alloc::{AllocError, Global};
-use sync_story::story::Story;
 
 /// Draws the name of the picture, which a browser shows, and what all else refers to.
 fn draw_name(alloc: Global, picture: &mut Markup, title: &str) -> Result<(), AllocError> {

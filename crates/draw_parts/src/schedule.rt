@@ -1,9 +1,9 @@
 //! Draws the lines of the text, on the left.
 use draw_layout::layout::{Layout, SCHEDULE, top_of};
+use draw_markup::markup::Markup;
 use draw_shapes::shape::{line, put_shape, put_text};
-use markup::markup::Markup;
+use draw_story::story::{Line, Story};
 use std::alloc::{AllocError, Global};
-use sync_story::story::{Line, Story};
 
 /// Draws a line of the schedule, before its first step.
 fn draw_line(

@@ -3,10 +3,10 @@ use draw_layout::label::{Mark, mark_of, reach_of};
 use draw_layout::lane::{Hold, Lane, Span};
 use draw_layout::layout::Layout;
 use draw_shapes::legend::{SIGNS, Sign};
+use draw_story::story::{Step, Story};
+use model_events::event::Act;
+use model_events::hold::HoldKind;
 use std::alloc::{AllocError, Global};
-use steps_events::event::Act;
-use steps_events::hold::HoldKind;
-use sync_story::story::{Step, Story};
 
 /// Whether one of these spans goes on at a row, begun before it.
 fn covers(spans: &[Span], row: u32) -> bool {

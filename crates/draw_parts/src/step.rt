@@ -6,13 +6,13 @@ use crate::signs::is_anybody_at;
 use draw_layout::label::{Mark, Reach, Tone, label_of, mark_of, outcome_of, reach_of, tone_of};
 use draw_layout::lane::Lane;
 use draw_layout::layout::{Layout, top_of};
+use draw_markup::markup::Markup;
 use draw_shapes::legend::cross;
 use draw_shapes::shape::{circle, line, put_shape, put_text, rect};
-use markup::markup::Markup;
+use draw_story::story::{Step, Story};
 use std::alloc::{AllocError, Global};
-use sync_lines::integer::TextInteger;
 use sync_steps::steps::Act;
-use sync_story::story::{Step, Story};
+use text_lines::integer::TextInteger;
 
 /// Draws the mark of a step, round its place; that of a wake by whether anybody stands who may be woken.
 fn draw_mark(

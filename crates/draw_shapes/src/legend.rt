@@ -2,8 +2,8 @@
 ghost use Rattle.std.specs.Prelude.{◌<◌, ◌^◌};
 
 use crate::shape::{circle, line, path, put_shape, put_text, rect};
-use markup::markup::Markup;
-use markup::opening::Opening;
+use draw_markup::markup::Markup;
+use draw_markup::opening::Opening;
 use std::alloc::{AllocError, Global};
 
 /// A sign that a legend explains.

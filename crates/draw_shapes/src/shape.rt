@@ -1,7 +1,7 @@
 //! The elements that a picture is made of.
-use markup::markup::Markup;
-use markup::name::{Key, Tag};
-use markup::opening::Opening;
+use draw_markup::markup::Markup;
+use draw_markup::name::{Key, Tag};
+use draw_markup::opening::Opening;
 use std::alloc::{AllocError, Global};
 
 /// An element of a class.

@@ -1,8 +1,8 @@
 //! How a picture looks, in a light and in a dark page.
 use crate::shape::{line, path, put, with_numbers};
-use markup::markup::Markup;
-use markup::name::{Key, Tag};
-use markup::opening::Opening;
+use draw_markup::markup::Markup;
+use draw_markup::name::{Key, Tag};
+use draw_markup::opening::Opening;
 use std::alloc::{AllocError, Global};
 
 /// The style of every element, by its class. Every colour has a name, and two values, for a light and for a dark page. It stands twice,

@@ -15,8 +15,8 @@ pub mod strategy;
 #[cfg(test)]
 mod tests;
 
-pub use closures::{Sleepers, wake_nobody, yield_and_go_on};
-pub use passes::{WaitResult, Watched};
-pub use sharing::{Shares, in_threads};
+pub use running_closures::{Sleepers, wake_nobody, yield_and_go_on};
+pub use running_passes::{WaitResult, Watched};
+pub use running_sharing::{Shares, in_threads};
+pub use running_tallies::WaitWord;
 pub use sync_steps::{SPIN_REPETITIONS, WaitAction, steps};
-pub use tallies::WaitWord;

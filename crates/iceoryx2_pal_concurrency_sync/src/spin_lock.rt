@@ -4,4 +4,4 @@ pub use running_spin_lock::{
     LockResult, PoisonError, SpinLock, SpinLockGuard, SpinPass, grants_are_of_a_run,
     one_holder_at_most,
 };
-pub use tallies::Holds;
+pub use running_tallies::Holds;

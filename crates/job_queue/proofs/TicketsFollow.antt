@@ -1,6 +1,5 @@
 -- Tickets that follow one another still do once a job with the next one stands at their end.
-use Rattle.std.proofs.Common.{◌≡◌, ℕ, ◌+◌, List, [], ◌∷◌, ◌++◌, length, refl, sym, ap, ◌∙◌, arith, rules}
-use Rattle.std.proofs.lemmas.List.{length_push}
+use Rattle.std.proofs.Common.{◌≡◌, ℕ, ◌+◌, List, [], ◌∷◌, ◌++◌, length, ap, arith}
 use Rattle.job_queue.specs.Tickets.{tickets_of, tickets_from}
 
 module _ {T : Type 0} where

@@ -1,5 +1,5 @@
 -- What a queue is, as contracts see it, and what each call answers and leaves.
-use Rattle.std.specs.Prelude.{◌≡◌, ℕ, ◌+◌, ◌-◌, ◌^◌, nat_lt, List, [], ◌∷◌, ◌++◌, length, Option, Some, None, Bool, true, false, if◌then◌else◌}
+use Rattle.std.specs.Prelude.{ℕ, ◌+◌, ◌^◌, nat_lt, List, [], ◌∷◌, ◌++◌, length, Option, Some, None, Bool, true, false, if◌then◌else◌}
 use Rattle.job_queue.specs.declared.answer.PutFault.{PutFault}
 use Rattle.job_queue.specs.declared.answer.Taken.{Taken}
 

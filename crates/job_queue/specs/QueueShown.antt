@@ -1,21 +1,22 @@
 -- What contracts see of a queue and its pass, and what a call changes in a pass.
-use Rattle.std.specs.Prelude.{◌≡◌, ◌+◌, ◌≤◌}
-use Rattle.passes.specs.Views.{joined_view}
-use Rattle.playing.specs.Passes.{both_played}
-use Rattle.tallies.specs.MutexRule.{both_holds}
-use Rattle.tallies.specs.SemaphoreRule.{both_permits}
-use Rattle.running_mutex.specs.CondRule.{both_waits}
-use Rattle.running_spin_lock.specs.ValueRule.{both_held}
+use Rattle.std.specs.Prelude.{◌≡◌, ℕ, suc, ◌+◌, ◌≤◌}
+use Rattle.running_passes.specs.Views.{left_view, right_view, joined_view}
+use Rattle.running_model.specs.Passes.{parties_of, core_played, both_played}
+use Rattle.running_tallies.specs.MutexRule.{no_holds, both_holds}
+use Rattle.running_tallies.specs.SemaphoreRule.{no_permits, both_permits}
+use Rattle.running_mutex.specs.CondRule.{no_waits, both_waits}
+use Rattle.running_spin_lock.specs.ValueRule.{core_held, both_held}
+use Rattle.running_mutex.specs.Often.{Often, HasWaitedOften}
 use Rattle.running_mutex.specs.MutexShown as mutexes
 use Rattle.running_mutex.specs.CondShown as conds
 use Rattle.running_spin_lock.specs.SpinShown as spins
 use Rattle.running_spin_lock.specs.SpinSteps.{HasPlayedBoth}
-use Rattle.steps_events.specs.declared.event.Call.{Call}
+use Rattle.model_events.specs.declared.event.Call.{Call}
 use Rattle.running_mutex.specs.declared.condition_variable.CondPass.{CondPass}
 use Rattle.running_spin_lock.specs.declared.pass.SpinPass.{SpinPass}
-use Rattle.passes.specs.Passes as passes
-use Rattle.passes.specs.Parts.{half, IsWhole, IsSamePart, IsAgain, AddUp}
-use Rattle.job_queue.specs.Locked.{HasLockedOnce}
+use Rattle.running_passes.specs.Passes as passes
+use Rattle.running_passes.specs.Parts.{half, IsWhole, IsSamePart, IsAgain, AddUp}
+use Rattle.job_queue.specs.Locked.{HasLockedOnce, LocksAndUnlocks, GoesToTheState}
 use Rattle.job_queue.specs.declared.pass.QueuePass.{QueuePass}
 use Rattle.job_queue.specs.declared.queue.JobQueue.{JobQueue}
 
@@ -46,10 +47,14 @@ pub record HasGoneInOnce (p q : QueuePass) : Type 0 where
   pub locked : mutexes.HasPlayedBoth (mutex_in p) (mutex_in q)
   pub spun : HasPlayedBoth Call.BlockingLock (spins.view (state_in p)) (spins.view (state_in q))
 
--- so, each at least once
-pub record HasGoneIn (p q : QueuePass) : Type 0 where
+-- It waited so often, and went in once more than that: each time it made a `Lock` of the mutex and a `BlockingLock` of the state's lock, each with its
+-- `Unlock`. It made no other call of the two, and none of the permits but a `Wait` each time it waited.
+pub record HasGoneIn {T A : Type 0} (queue : JobQueue T A) (waits : ℕ) (p q : QueuePass) : Type 0 where
   pub mutex : mutexes.grants_of (mutex_in p) + 1 ≤ mutexes.grants_of (mutex_in q)
   pub state : spins.grants_of (state_in p) + 1 ≤ spins.grants_of (state_in q)
+  pub locked : Often LocksAndUnlocks (suc waits) (parties_of (mutex_in p)) (parties_of (mutex_in q))
+  pub spun : Often GoesToTheState (suc waits) (spins.view (state_in p)) (spins.view (state_in q))
+  pub waited : HasWaitedOften queue.changed waits (changed_in p) (changed_in q)
 
 -- it had the state's lock twice at least, and so looked at the state again
 abbrev pub HasLookedTwice : QueuePass → QueuePass → Type 0
@@ -62,10 +67,28 @@ pub record PartsAddUp (p one other : QueuePass) : Type 0 where
   pub permits : AddUp (passes.part_of (conds.permits_in (changed_in p))) (passes.part_of (conds.permits_in (changed_in one))) (passes.part_of (conds.permits_in (changed_in other)))
   pub state : AddUp (spins.part_of (state_in p)) (spins.part_of (state_in one)) (spins.part_of (state_in other))
 
+-- the pass is the same part of each of the objects, as `new` gives it, and as split and join leave it
+abbrev pub IsOnePart : QueuePass → Type 0
+IsOnePart p = (passes.part_of (conds.waits_in (changed_in p)) ≡ passes.part_of (mutex_in p)) × (passes.part_of (conds.permits_in (changed_in p)) ≡ passes.part_of (mutex_in p)) × (spins.part_of (state_in p) ≡ passes.part_of (mutex_in p))
+
+-- at each of the objects: one counted what p did, and knows it
+pub record IsFirstOf (p one : QueuePass) : Type 0 where
+  pub mutex : passes.view (mutex_in one) ≡ left_view (passes.view (mutex_in p))
+  pub waits : passes.view (conds.waits_in (changed_in one)) ≡ left_view (passes.view (conds.waits_in (changed_in p)))
+  pub permits : passes.view (conds.permits_in (changed_in one)) ≡ left_view (passes.view (conds.permits_in (changed_in p)))
+  pub state : spins.view (state_in one) ≡ left_view (spins.view (state_in p))
+
+-- and other counted nothing, and knows what p knew
+pub record IsSecondOf (p other : QueuePass) : Type 0 where
+  pub mutex : passes.view (mutex_in other) ≡ right_view (core_played (λ _. no_holds)) (passes.view (mutex_in p))
+  pub waits : passes.view (conds.waits_in (changed_in other)) ≡ right_view (core_played (λ _. no_waits)) (passes.view (conds.waits_in (changed_in p)))
+  pub permits : passes.view (conds.permits_in (changed_in other)) ≡ right_view (core_played (λ _. no_permits)) (passes.view (conds.permits_in (changed_in p)))
+  pub state : spins.view (state_in other) ≡ right_view core_held (spins.view (state_in p))
+
 -- p counted and knows what one and other did, at each of the objects
 pub record IsJoined (p one other : QueuePass) : Type 0 where
   pub mutex : passes.view (mutex_in p) ≡ joined_view (both_played both_holds) (passes.view (mutex_in one)) (passes.view (mutex_in other))
-  pub waits : passes.view (conds.waits_in (changed_in p)) ≡ joined_view both_waits (passes.view (conds.waits_in (changed_in one))) (passes.view (conds.waits_in (changed_in other)))
+  pub waits : passes.view (conds.waits_in (changed_in p)) ≡ joined_view (both_played both_waits) (passes.view (conds.waits_in (changed_in one))) (passes.view (conds.waits_in (changed_in other)))
   pub permits : passes.view (conds.permits_in (changed_in p)) ≡ joined_view (both_played both_permits) (passes.view (conds.permits_in (changed_in one))) (passes.view (conds.permits_in (changed_in other)))
   pub state : spins.view (state_in p) ≡ joined_view both_held (spins.view (state_in one)) (spins.view (state_in other))
 

@@ -1,5 +1,5 @@
 -- Tickets that follow one another.
-use Rattle.std.specs.Prelude.{◌≡◌, ℕ, suc, zero, ◌+◌, List, [], ◌∷◌}
+use Rattle.std.specs.Prelude.{ℕ, suc, zero, ◌+◌, List, [], ◌∷◌}
 
 module _ {T : Type 0} where
   -- the tickets of these jobs

@@ -5,6 +5,7 @@ ghost use Rattle.running_mutex.specs.MutexShown.{holds_of};
 use crate::queue::JobQueue;
 use running_mutex::MutexPass;
 use running_mutex::condition_variable::CondPass;
+use running_sharing::Shares;
 use running_spin_lock::SpinPass;
 use std::alloc::Allocator;
 
@@ -18,9 +19,9 @@ pub struct QueuePass {
 }
 
 impl QueuePass {
-    ghost use Rattle.job_queue.specs.QueueShown.{IsQueuePass, IsJoined, IsHalfOf, IsAgainOf, PartsAddUp};
+    ghost use Rattle.job_queue.specs.QueueShown.{IsQueuePass, IsFirstOf, IsSecondOf, IsJoined, IsHalfOf, IsAgainOf, PartsAddUp};
 
-    /// Two passes of the same queue. `Err`, which never comes today, would hand the pass back.
+    /// Two passes of the same queue. What they counted adds up to what this one had counted, and both know what it knew. `Err`, which never comes today, would hand the pass back.
     pub fn split<T, A: Allocator>(
         self,
         of: &JobQueue<T, A>,
@@ -29,6 +30,7 @@ impl QueuePass {
         ensures never_refused { is_ok result ≡ true }
         ensures own { IfOk result (λ parts. IsQueuePass of.now parts.0 × IsQueuePass of.now parts.1) }
         ensures halves { IfOk result (λ parts. IsHalfOf self parts.0 × IsHalfOf self parts.1) }
+        ensures views { IfOk result (λ parts. IsFirstOf self parts.0 × IsSecondOf self parts.1) }
         ensures weights { IfOk result (λ parts. PartsAddUp self parts.0 parts.1) }
     {
         let QueuePass {
@@ -96,5 +98,28 @@ impl QueuePass {
             changed,
             state,
         })
+    }
+}
+
+impl<T, A: Allocator> Shares<JobQueue<T, A>> for QueuePass {
+    ghost use Rattle.running_passes.specs.Passes.{part_of};
+    ghost use Rattle.job_queue.specs.QueueShown.{IsQueuePass, IsOnePart, mutex_in};
+
+    ghost idle = { λ queue p. IsQueuePass queue p × IsOnePart p };
+
+    ghost part = { λ p. part_of (mutex_in p) };
+
+    fn cut(self, of: &JobQueue<T, A>) -> (QueuePass, QueuePass) {
+        let Ok(parts) = self.split(of) else {
+            unreachable!()
+        };
+        parts
+    }
+
+    fn mend(one: QueuePass, other: QueuePass, of: &JobQueue<T, A>) -> QueuePass {
+        let Ok(pass) = QueuePass::join(one, other, of) else {
+            unreachable!()
+        };
+        pass
     }
 }

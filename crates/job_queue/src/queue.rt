@@ -1,29 +1,34 @@
 //! The queue that threads share.
-ghost use Rattle.std.specs.Prelude.{◌≡◌, ◌+◌, ◌≤◌, min, IfOk, IfErr};
-ghost use Rattle.passes.specs.Answers.{MayAnswerAbort, HasWoken};
+ghost use Rattle.std.specs.Prelude.{◌≡◌, ℕ, suc, ◌+◌, ◌≤◌, min, Some, IfOk, IfErr};
+ghost use Rattle.running_passes.specs.Answers.{MayAnswerAbort, HasWoken};
 ghost use Rattle.running_semaphore.specs.SemaphoreShown.{IsEmpty};
 ghost use Rattle.running_mutex.specs.MutexShown.{IsMutexPass, holds_of, grants_of, pass_of, borrow_of, HasStayed as HasLockedAtMost, HasPlayedBoth as HasLockedAndUnlocked};
 ghost use Rattle.running_mutex.specs.CondShown.{IsCondPass, HasNotified, held_by, HasStayed as HasWaitedAtMost};
 ghost use Rattle.running_spin_lock.specs.SpinShown.{IsSpinPass, HasLockedOnce as HasSpunOnce, HasStayed as HasSpunAtMost, grants_of as state_grants_of, view};
 ghost use Rattle.running_spin_lock.specs.SpinSteps.{HasPlayedBoth};
-ghost use Rattle.steps_events.specs.declared.event.Call.TheVariants as calls;
+ghost use Rattle.model_events.specs.declared.event.Call.TheVariants as calls;
+ghost use Rattle.running_model.specs.Passes.{parties_of};
+ghost use Rattle.running_mutex.specs.CondShown.{HasPlayedAgain};
+ghost use Rattle.running_mutex.specs.Often.{Often, HasWaitedOften};
+ghost use Rattle.model_events.specs.declared.event.Answer.TheVariants as answers;
+ghost use Rattle.model_events.specs.declared.hold.HoldKind.TheVariants as kinds;
 ghost use Rattle.job_queue.specs.Answers.{job_of, IsEmptyAnswer, IsInterrupted, IfGaveUp};
-ghost use Rattle.job_queue.specs.Looks.{held_after, IfDone};
-ghost use Rattle.job_queue.specs.Locked.{HasLockedOnce};
-ghost use Rattle.steps_events.specs.declared.WaitAction.TheVariants as actions;
+ghost use Rattle.job_queue.specs.Looks.{held_after, waits_of, IfDone, IfLast, IfWaited};
+ghost use Rattle.job_queue.specs.Locked.{HasLockedOnce, LocksAndUnlocks, GoesToTheState};
+ghost use Rattle.model_events.specs.declared.WaitAction.TheVariants as actions;
 
 use crate::answer::{PutFault, Taken};
 use crate::pass::QueuePass;
 use crate::state::QueueState;
-use passes::WaitResult;
+use model_events::WaitAction;
 use running_mutex::condition_variable::{CondPass, CondResult, ConditionVariable, Woken};
 use running_mutex::{Mutex, MutexHold, MutexPass};
+use running_passes::WaitResult;
 use running_spin_lock::{SpinLock, SpinPass};
+use running_tallies::WaitWord;
 use std::alloc::{AllocError, Allocator, Global};
 use std::sync::Wait;
 use std::thread;
-use steps_events::WaitAction;
-use tallies::WaitWord;
 
 /// A bounded queue of jobs, which threads share. Each job has a ticket, and they leave in the order of their tickets.
 ///
@@ -37,13 +42,13 @@ pub struct JobQueue<T, A: Allocator = Global> {
 }
 
 impl<T: Drop, A: Allocator + Copy> JobQueue<T, A> {
-    ghost use Rattle.job_queue.specs.QueueShown.{IsQueuePass, IsWholePass};
+    ghost use Rattle.job_queue.specs.QueueShown.{IsQueuePass, IsOnePart, IsWholePass};
 
     /// An open queue that holds at most `capacity` jobs, whose first ticket is 0, and the pass that is whole. `Err` where there was no
     /// memory; then nothing was made.
     pub fn new(alloc: A, capacity: usize) -> Result<(JobQueue<T, A>, QueuePass), AllocError>
         ensures own { IfOk result (λ made. IsQueuePass made.0 made.1) }
-        ensures whole { IfOk result (λ made. IsWholePass made.1) }
+        ensures whole { IfOk result (λ made. IsWholePass made.1 × IsOnePart made.1) }
     {
         let (mutex, mutex_pass) = Mutex::new(alloc)?;
         let (changed, changed_pass) = ConditionVariable::new(alloc)?;
@@ -120,7 +125,7 @@ impl<T, A: Allocator> JobQueue<T, A> {
         requires own { IsQueuePass self.now pass.old }
         requires may { W.IsAlwaysCallable wait × K.IsAlwaysCallable wake_one }
         ensures stayed { HasStayed pass.old pass.new }
-        ensures went_in { HasGoneIn pass.old pass.new }
+        ensures went_in { (waits : ℕ) × HasGoneIn self.now waits pass.old pass.new }
         ensures never_empty { ¬ IsEmptyAnswer result }
         ensures aborted { IsInterrupted result → MayAnswerAbort W.Fn wait IsEmpty }
         ensures looked_again { IsInterrupted result → HasLookedTwice pass.old pass.new }
@@ -250,6 +255,7 @@ fn take_locked<T, A: Allocator, R: Wait, W: Fn(&WaitWord, &u64) -> WaitAction, K
     ensures waited { HasWaitedAtMost cond_pass.old cond_pass.new }
     ensures spun { HasSpunAtMost pass.old pass.new }
     ensures went_in { state_grants_of pass.old + 1 ≤ state_grants_of pass.new }
+    ensures looked { (waits : ℕ) × Often LocksAndUnlocks (suc waits) (parties_of mtx_pass.old) (parties_of mtx_pass.new) × Often GoesToTheState (suc waits) (view pass.old) (view pass.new) × HasWaitedOften queue.now.changed waits cond_pass.old cond_pass.new }
     ensures never_empty { ¬ IsEmptyAnswer result }
     ensures aborted { IsInterrupted result → MayAnswerAbort W.Fn wait.now IsEmpty }
     ensures looked_again { IsInterrupted result → state_grants_of pass.old + 2 ≤ state_grants_of pass.new }
@@ -263,6 +269,11 @@ fn take_locked<T, A: Allocator, R: Wait, W: Fn(&WaitWord, &u64) -> WaitAction, K
                     Looked::Again(again) => hold = again,
                     Looked::Done(taken, held) => {
                         queue.mutex.unlock(held, wake_one);
+                        return taken;
+                    }
+                    Looked::Last(last) => {
+                        let taken = take_last(&last, pass, rt, &queue.state);
+                        queue.mutex.unlock(last, wake_one);
                         return taken;
                     }
                 }
@@ -280,9 +291,11 @@ enum Looked<T, H> {
     Done(Taken<T>, H),
     /// There was no job, and a notify came.
     Again(H),
+    /// There was no job, and the wait closure had answered `Abort`.
+    Last(H),
 }
 
-/// Takes from the state, and waits once where it is empty and open. Where the wait gives up, it looks once more.
+/// Takes from the state, and waits once where it is empty and open.
 fn look<'p, T, A: Allocator, R: Wait, W: Fn(&WaitWord, &u64) -> WaitAction, K: Fn(&WaitWord)>(
     hold: MutexHold<'p>,
     queue: &JobQueue<T, A>,
@@ -299,17 +312,16 @@ fn look<'p, T, A: Allocator, R: Wait, W: Fn(&WaitWord, &u64) -> WaitAction, K: F
     ensures waited { HasWaitedAtMost cond_pass.old cond_pass.new }
     ensures spun { HasSpunAtMost pass.old pass.new }
     ensures went_in { state_grants_of pass.old + 1 ≤ state_grants_of pass.new }
-    ensures never_empty { IfDone result (λ taken. ¬ IsEmptyAnswer taken) }
-    ensures aborted { IfDone result (λ taken. IsInterrupted taken → MayAnswerAbort W.Fn wait.now IsEmpty) }
-    ensures looked_again { IfDone result (λ taken. IsInterrupted taken → state_grants_of pass.old + 2 ≤ state_grants_of pass.new) }
+    ensures called { GoesToTheState (view pass.old) (view pass.new) }
+    ensures relocked { IfWaited result (parties_of (pass_of (held_after result)) ≡ parties_of (pass_of hold.entry)) (HasPlayedAgain answers.Success (Some kinds.Write) (pass_of hold.entry) (pass_of (held_after result))) }
+    ensures slept { HasWaitedOften queue.now.changed (waits_of result) cond_pass.old cond_pass.new }
+    ensures never_empty { IfDone result (λ taken. ¬ IsEmptyAnswer taken × ¬ IsInterrupted taken) }
+    ensures aborted { IfLast result (MayAnswerAbort W.Fn wait.now IsEmpty) }
 {
     match take_now(&hold, pass, rt, &queue.state) {
         Taken::Empty => match sleep_once(hold, queue, rt, cond_pass, wait, wake_one) {
             Woken::Signalled(again) => Looked::Again(again),
-            Woken::Unsignalled(again) => {
-                let taken = take_last(&again, pass, rt, &queue.state);
-                Looked::Done(taken, again)
-            }
+            Woken::Unsignalled(again) => Looked::Last(again),
         },
         taken => Looked::Done(taken, hold),
     }
@@ -329,6 +341,8 @@ fn sleep_once<'p, T, A: Allocator, R: Wait, W: Fn(&WaitWord, &u64) -> WaitAction
     ensures same_borrow { borrow_of (held_by result) ≡ borrow_of hold.entry }
     ensures held { HasLockedAtMost (pass_of hold.entry) (pass_of (held_by result)) }
     ensures waited { HasWaitedAtMost pass.old pass.new }
+    ensures relocked { HasPlayedAgain answers.Success (Some kinds.Write) (pass_of hold.entry) (pass_of (held_by result)) }
+    ensures slept { HasWaitedOften queue.now.changed 1 pass.old pass.new }
     ensures aborted { IfGaveUp result (MayAnswerAbort W.Fn wait.now IsEmpty) }
 {
     let answer = ConditionVariable::wait(

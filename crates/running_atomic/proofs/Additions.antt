@@ -1,13 +1,13 @@
 -- What callers prove of a pass that only adds: by each addition, by a join, and of the value at the end. That a new pass has added nothing,
 -- and what the parts of a pass have added, is found by search.
 use Rattle.std.proofs.Common.{◌≡◌, ℕ, zero, suc, ◌+◌, ◌*◌, ◌%◌, ◌^◌, ◌<◌, List, [], ◌∷◌, ◌++◌, length, refl, sym, ap, subst, ◌∙◌, arith}
-use Rattle.passes.specs.Parts.{IsWhole}
-use Rattle.tallies.specs.Counts.{one_more, both_counts}
-use Rattle.steps_events.specs.declared.event.Call.TheVariants as calls
-use Rattle.steps_events.specs.declared.event.Answer.{Answer}
-use Rattle.steps_events.specs.Arithmetic.{Arithmetic}
-use Rattle.steps_events.specs.Integers.{u128_arithmetic}
-use Rattle.steps_atomic.specs.Register.{RegisterAct, plain, value_after, after_acts}
+use Rattle.running_passes.specs.Parts.{IsWhole}
+use Rattle.running_tallies.specs.Counts.{one_more, both_counts}
+use Rattle.model_events.specs.declared.event.Call.TheVariants as calls
+use Rattle.model_events.specs.declared.event.Answer.{Answer}
+use Rattle.model_events.specs.Arithmetic.{Arithmetic}
+use Rattle.model_events.specs.Integers.{u128_arithmetic}
+use Rattle.model_atomic.specs.Register.{RegisterAct, plain, value_after, after_acts}
 use Rattle.running_atomic.specs.declared.pass.AtomicPass.{AtomicPass}
 use Rattle.running_atomic.specs.AtomicRule.{each_once}
 use Rattle.running_atomic.specs.AtomicShown.{part_of_atomic, own_of, history_of, HasActed, HasJoined, IsLastOf}

@@ -1,7 +1,7 @@
 -- The end of an atomic, with the whole pass.
 use Rattle.running_atomic.specs.Names.{tally_of, Arithmetic, counts_of, counted, Free}
 use Rattle.running_atomic.proofs.Names.{◌≡◌, ℕ, sym, subst}
-use Rattle.passes.specs.Objects.{HaveClosed}
+use Rattle.running_passes.specs.Objects.{HaveClosed}
 use Rattle.running_atomic.specs.declared.pass.AtomicPass.{AtomicPass}
 use Rattle.running_atomic.specs.AtomicParties.{StandsAtRun}
 use Rattle.running_atomic.specs.AtomicShown.{pass_in, parties_in, history_of}

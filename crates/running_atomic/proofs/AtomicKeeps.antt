@@ -2,7 +2,7 @@
 use Rattle.running_atomic.specs.Names.{MatchBool, Arithmetic, IsValue, IsClosed, View, IsWhole, looked, missed, wrote, Updates, one_more, Held, Free, Reading, Writing, Torn, both_held, Locks, value_after, answer_to, after_acts}
 use Rattle.running_atomic.proofs.Names.{◌≡◌, ℕ, ◌+◌, ◌-◌, ◌%◌, ◌^◌, ◌<◌, ◌==◌, Bool, true, false, List, [], ◌∷◌, ◌++◌, get_or, set, sym, refl, ap, ◌∙◌, subst, arith, length-set, get_or-set_same, get_or-set_other, None}
 use prog.Atomic.{either}
-use Rattle.passes.proofs.Updates.{by_look, by_exchange}
+use Rattle.running_passes.proofs.Updates.{by_look, by_exchange}
 use Rattle.running_atomic.specs.declared.history.AtomicTally.{AtomicTally}
 use Rattle.running_atomic.specs.declared.history.Content.{Content}
 use Rattle.running_atomic.specs.declared.history.AtomicAct.{AtomicAct}

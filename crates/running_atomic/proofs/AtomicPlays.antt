@@ -1,7 +1,7 @@
 -- The steps of an atomic are those of its table.
 use Rattle.running_atomic.specs.Names.{nat_lt, Word, Call, Answer, HoldKind, Intent, After, Arithmetic, IsValue, CallValues, hold_or, AtomicPlace, look_at, puts, inside, compares, knows, Slot, Parties, all_of, Coming, Going, Beginning, Choosing, ComesBy, Led, Leads, HasEnded, HasCalled, MayStep, Went}
 use Rattle.running_atomic.proofs.Names.{◌≡◌, ◌≢◌, ℕ, ◌+◌, ◌-◌, ◌^◌, ◌<◌, ◌≤◌, ◌==◌, Bool, true, false, cond, refl, sym, ap, subst, List, Option, Some, None, arith, ne_eqb, nat_tests}
-use Rattle.steps_events.proofs.Holds.{eqb_same}
+use Rattle.model_events.proofs.Holds.{eqb_same}
 use Rattle.running_atomic.specs.AtomicModel.{atomic_model, atomic_names}
 use Rattle.running_atomic.specs.AtomicParties.{Writes, IsNext, Reads, Knows, Puts, ComesToPut, MayPut, IsAtPutHigh, HasPut}
 

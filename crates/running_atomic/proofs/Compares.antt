@@ -1,7 +1,7 @@
 -- What a call knows that compares: it has taken the lock and the value, or has acted.
 use Rattle.running_atomic.specs.Names.{MatchBool, Call, Answer, After, Arithmetic, Pass, View, IsSamePass, IsWhole, compares, knows, puts, one_more, Held, Free, Writing, counts_of, counted, RegisterAct, Outcome, plain, answer_to, value_after}
 use Rattle.running_atomic.proofs.Names.{◌≡◌, ℕ, refl, sym, ap, subst, ◌∙◌, Bool, true, false, length, None}
-use Rattle.steps_atomic.specs.Register as register
+use Rattle.model_atomic.specs.Register as register
 use Rattle.running_atomic.specs.declared.history.AtomicTally.{AtomicTally}
 use Rattle.running_atomic.specs.declared.history.Content.{Content}
 use Rattle.running_atomic.specs.declared.history.AtomicAct.{AtomicAct}

@@ -1,7 +1,7 @@
 -- Each step of an atomic keeps the one history that of the run: a call's last access is one act more of both, and no other step changes either.
 use Rattle.running_atomic.specs.Names.{not, MatchBool, Word, Call, Act, Event, Intent, HoldKind, Arithmetic, PendingCall, call_of, word_in, stage_of, AtomicPlace, RegisterAct, plain, value_after, choice_of, choice_for, act_by, acts_at, acts_of_run, atomic_table, View, Parties, Coming, Going, StillAgrees, GoesOnCounting, StaysCounting, both_held, Locks, Held, Writing}
 use Rattle.running_atomic.proofs.Names.{◌≡◌, ℕ, refl, sym, ap, subst, ◌∙◌, Bool, true, false, cond, get_or, List, [], ◌∷◌, ◌++◌, Option, Some, None, append-nil, puts_at, looks_at, again_at, put_is_chosen}
-use Rattle.playing.proofs.Same.{same_coming}
+use Rattle.running_model.proofs.Same.{same_coming}
 use Rattle.running_atomic.specs.declared.history.AtomicTally.{AtomicTally}
 use Rattle.running_atomic.specs.declared.history.Content.{Content}
 use Rattle.running_atomic.specs.declared.history.AtomicAct.{AtomicAct}

@@ -1,14 +1,14 @@
 -- What is known of the history, and which acts are own, as it grows.
 use Rattle.running_atomic.specs.Names.{Arithmetic, count_at, one_more, both_counts, RegisterAct, value_after, after_acts}
 use Rattle.running_atomic.proofs.Names.{◌≡◌, ℕ, zero, suc, ◌+◌, ◌≤◌, List, [], ◌∷◌, ◌++◌, length, sym, refl, ap, ◌∙◌, subst, arith}
-use Rattle.tallies.proofs.CountLaws.{in_both, more_in_both}
+use Rattle.running_tallies.proofs.CountLaws.{in_both, more_in_both}
 use Rattle.running_atomic.specs.declared.history.AtomicAct.{AtomicAct}
 use Rattle.running_atomic.specs.declared.history.Place.{Place}
 use Rattle.running_atomic.specs.declared.history.Place.TheVariants.{Unknown, Is, Torn}
 use Rattle.running_atomic.specs.declared.history.Heard.{Heard}
 use Rattle.running_atomic.specs.Agree.{merge, met_is, met_else, by_same, merge_none, merge_idem, merge_comm, merge_assoc}
 use Rattle.running_atomic.specs.History.{heard, both_heard, same_act, acts_tell}
-use Rattle.running_atomic.specs.AtomicRule.{front, known, each_once, acts_in, act_in, history_in, HasHistory}
+use Rattle.running_atomic.specs.AtomicRule.{prefix, known, each_once, acts_in, act_in, history_in, HasHistory}
 use Rattle.running_atomic.specs.AtomicSteps.{StartsWith, AreMarks}
 
 abbrev Places : Type 0
@@ -55,7 +55,7 @@ others [] = []
 others (x ∷ xs) = xs
 
 -- what is known of a history from the first act on begins it
-starts : (h : List AtomicAct) (p : Places) → M (known h) p ≡ known h → StartsWith h (front p)
+starts : (h : List AtomicAct) (p : Places) → M (known h) p ≡ known h → StartsWith h (prefix p)
 starts h [] is = (h, refl)
 starts h (Unknown ∷ p) is = (h, refl)
 starts h (Torn ∷ p) is = (h, refl)
@@ -64,9 +64,9 @@ starts (y ∷ h) (Is x ∷ p) is = by_same same_act acts_tell _ y x
     (λ same. let t = starts h p (ap others is) in (t.0, (λ i. same i ∷ t.1 i)))
     (λ apart. absurd (subst IsTorn (sym (met_else same_act acts_tell y x apart) ∙ ap first is) tt))
 
-pub front_known : (h : List AtomicAct) → front (known h) ≡ h
-front_known [] = refl
-front_known (x ∷ h) = ap (λ (l : List AtomicAct). x ∷ l) (front_known h)
+pub prefix_known : (h : List AtomicAct) → prefix (known h) ≡ h
+prefix_known [] = refl
+prefix_known (x ∷ h) = ap (λ (l : List AtomicAct). x ∷ l) (prefix_known h)
 
 -- own acts
 
@@ -100,7 +100,7 @@ grown : (h g : List AtomicAct) (v w r : Places) → M v r ≡ known h → M w r 
 grown h g v w r was now knew =
     let all : M (known g) (known h) ≡ known g = (λ i. M (sym now i) (sym was i)) ∙ merge_assoc same_act acts_tell w r (M v r) ∙ ap (M w) (merge_comm same_act acts_tell r (M v r) ∙ merge_assoc same_act acts_tell v r r ∙ ap (M v) (merge_idem same_act acts_tell r))
     ∙ sym (merge_assoc same_act acts_tell w v r) ∙ ap (λ (x : Places). M x r) knew ∙ now in
-    let t = starts g (known h) all in (t.0, t.1 ∙ ap (λ (l : List AtomicAct). l ++ t.0) (front_known h))
+    let t = starts g (known h) all in (t.0, t.1 ∙ ap (λ (l : List AtomicAct). l ++ t.0) (prefix_known h))
 
 -- without an own act more it is as long
 pub as_long : (h g : List AtomicAct) (v w r : Heard) → (both_heard v r).seen ≡ known h → (both_heard v r).own ≡ each_once h → (both_heard w r).seen ≡ known g → (both_heard w r).own ≡ each_once g → M w.seen v.seen ≡ w.seen → w.own ≡ v.own → g ≡ h
@@ -113,7 +113,7 @@ pub one_longer : (h g before : List AtomicAct) (a : AtomicAct) (v w r : Heard) �
 one_longer h g before a v w r was owned now owns seen knew own =
     let t = grown h g v.seen w.seen r.seen was now knew in
     let s = starts g w.seen (absorbs_first w.seen r.seen (known g) now) in
-    let last : g ≡ (before ++ a ∷ []) ++ s.0 = s.1 ∙ ap (λ (l : List AtomicAct). l ++ s.0) (ap front seen ∙ front_known (before ++ a ∷ [])) in
+    let last : g ≡ (before ++ a ∷ []) ++ s.0 = s.1 ∙ ap (λ (l : List AtomicAct). l ++ s.0) (ap prefix seen ∙ prefix_known (before ++ a ∷ [])) in
     let counts : each_once (h ++ t.0) ≡ one_more (length before) (each_once h) = ap each_once (sym t.1) ∙ sym owns ∙ ap (λ (l : List ℕ). both_counts l r.own) own ∙ more_in_both (length before) v.own r.own ∙ ap (one_more (length before)) owned in
     t.1 ∙ one_more_is h before t.0 s.0 a counts (sym t.1 ∙ last)
 
@@ -144,14 +144,14 @@ module _ {T : Type 0} (z : Arithmetic T) where
 
   -- all is known of a history
   pub seen_known : (t : Heard) (h : List AtomicAct) → t.seen ≡ known h → history_in z t ≡ acts_in z h
-  seen_known t h is = ap (λ (p : Places). acts_in z (front p)) is ∙ ap (acts_in z) (front_known h)
+  seen_known t h is = ap (λ (p : Places). acts_in z (prefix p)) is ∙ ap (acts_in z) (prefix_known h)
 
   -- the history that all know begins with what one of them knows
   pub begins : (h : List AtomicAct) (v r : Heard) → (both_heard v r).seen ≡ known h → StartsWith (acts_in z h) (history_in z v)
-  begins h v r is = let t = starts h v.seen (absorbs_first v.seen r.seen (known h) is) in (acts_in z t.0, ap (acts_in z) t.1 ∙ acts_append (front v.seen) t.0)
+  begins h v r is = let t = starts h v.seen (absorbs_first v.seen r.seen (known h) is) in (acts_in z t.0, ap (acts_in z) t.1 ∙ acts_append (prefix v.seen) t.0)
 
   pub begins_also : (h : List AtomicAct) (v r : Heard) → (both_heard v r).seen ≡ known h → StartsWith (acts_in z h) (history_in z r)
-  begins_also h v r is = let t = starts h r.seen (absorbs v.seen r.seen (known h) is) in (acts_in z t.0, ap (acts_in z) t.1 ∙ acts_append (front r.seen) t.0)
+  begins_also h v r is = let t = starts h r.seen (absorbs v.seen r.seen (known h) is) in (acts_in z t.0, ap (acts_in z) t.1 ∙ acts_append (prefix r.seen) t.0)
 
   -- where nobody else knows anything, it is what the one knows
   pub alone : (h : List AtomicAct) (v r : Heard) → (both_heard v r).seen ≡ known h → r ≡ heard [] [] → history_in z v ≡ acts_in z h

@@ -1,7 +1,7 @@
 -- Whenever the rule of an atomic holds, all its passes have seen one history.
 use Rattle.running_atomic.specs.Names.{Arithmetic, after_acts, none_played, both_played, core_played, played_add_up}
 use Rattle.running_atomic.proofs.Names.{sym, refl, ap, ◌∙◌}
-use Rattle.passes.proofs.Sums.{others, sum_at}
+use Rattle.running_passes.proofs.Sums.{others, sum_at}
 use Rattle.running_atomic.specs.History.{no_acts, both_tallies, known_tally, tallies_add_up}
 use Rattle.running_atomic.specs.AtomicRule.{acts_in, data_of, value_of}
 use Rattle.running_atomic.specs.AtomicSteps.{PlayedAtomic, all_of, OneHistory}

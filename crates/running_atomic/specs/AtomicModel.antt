@@ -1,8 +1,8 @@
 -- The model that an atomic plays.
 use Rattle.running_atomic.specs.Names.{ℕ, List, [], ◌∷◌, Word, Event, Arithmetic, IsValue, IsClosed, IsPast, AtomicPlace, atomic_table}
-use Rattle.steps_atomic.specs.Law.{KeepsAtomic}
-use Rattle.steps_atomic.proofs.Data.{keeps_atomic}
-use Rattle.playing.specs.Models.{Model}
+use Rattle.model_atomic.specs.Law.{KeepsAtomic}
+use Rattle.model_atomic.proofs.Data.{keeps_atomic}
+use Rattle.running_model.specs.Models.{Model}
 
 -- What every run keeps, where the operators lead from values to values, and the opening value is one: so it is of every type that an
 -- atomic may hold.

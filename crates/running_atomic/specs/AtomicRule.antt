@@ -38,15 +38,15 @@ module _ {T : Type 0} (z : Arithmetic T) where
   acts_in (a ∷ acts) = act_in a ∷ acts_in acts
 
 -- the acts that are known from the first on
-abbrev pub front : List (Place AtomicAct) → List AtomicAct
-front [] = []
-front (Unknown ∷ places) = []
-front (Is a ∷ places) = a ∷ front places
-front (Torn ∷ places) = []
+abbrev pub prefix : List (Place AtomicAct) → List AtomicAct
+prefix [] = []
+prefix (Unknown ∷ places) = []
+prefix (Is a ∷ places) = a ∷ prefix places
+prefix (Torn ∷ places) = []
 
 -- the history as far as it was seen
 abbrev pub history_in : {T : Type 0} → Arithmetic T → Heard → List (RegisterAct T)
-history_in z t = acts_in z (front t.seen)
+history_in z t = acts_in z (prefix t.seen)
 
 -- all of a history is known
 abbrev pub known : List AtomicAct → List (Place AtomicAct)

@@ -4,7 +4,7 @@ use mathlib.Core.Option as maybe
 use mathlib.Core.Option.{some}
 use lib.ListN.{get_elem?}
 use Rattle.atomic_table.specs.Table.{State}
-use Rattle.playing.specs.declared.played.Played.{Played}
+use Rattle.running_model.specs.declared.played.Played.{Played}
 use Rattle.running_atomic.specs.declared.script.AtomicScript.{AtomicScript}
 use Rattle.running_atomic.specs.declared.history.AtomicTally.{AtomicTally}
 use Rattle.running_atomic.specs.declared.history.Content.{Content}

@@ -1,8 +1,8 @@
 -- What is known of the history, and which places of it are own acts.
 use Rattle.running_atomic.specs.Names.{◌≡◌, ℕ, Bool, List, [], ◌∷◌, Some, None, Held, Free, TellsSame, both_held, both_counts, counts_swap, counts_group}
 use Rattle.std.proofs.Common.{refl, zero, suc}
-use Rattle.passes.specs.Tallies.{IsTally}
-use Rattle.tallies.specs.HeldTally.{held_adds_up}
+use Rattle.running_passes.specs.Tallies.{IsTally}
+use Rattle.running_tallies.specs.HeldTally.{held_adds_up}
 use Rattle.running_atomic.specs.declared.history.Content.{Content}
 use Rattle.running_atomic.specs.declared.history.AtomicAct.{AtomicAct}
 use Rattle.running_atomic.specs.declared.history.Place.{Place}

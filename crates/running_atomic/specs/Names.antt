@@ -1,33 +1,33 @@
 -- What this crate reads of others.
-pub use Rattle.passes.specs.Parts.{IsWhole, together}
-pub use Rattle.passes.specs.Passes.{IsSamePass, view, part_of, tally_of}
-pub use Rattle.passes.specs.Views.{missed, wrote, sum_of, IsCounted, looked, Updates, joined_view}
-pub use Rattle.passes.specs.declared.pass.Pass.{Pass}
-pub use Rattle.passes.specs.declared.view.View.{View}
-pub use Rattle.playing.specs.Passes.{StaysOnNoWord, parties_of, counts_of, counted, none_played, both_played, PlaysAndCounts, StillAgrees, GoesOnCounting, StaysCounting, core_played, played_add_up}
-pub use Rattle.playing.specs.Plays.{events_of, Matches, Coming, ComesBy, IsAt, Leads, HasEnded, HasCalled, Going, Beginning, Choosing, Led, MayStep, Went, IsPlayed}
-pub use Rattle.playing.specs.Slots.{Slot, Parties, slot_at, all_of}
-pub use Rattle.playing.specs.Stages.{IsPassOf, key_of}
-pub use Rattle.playing.specs.Words.{IsOnNoWord, on_no_word, AllHold}
+pub use Rattle.running_passes.specs.Parts.{IsWhole, together}
+pub use Rattle.running_passes.specs.Passes.{IsSamePass, view, part_of, tally_of}
+pub use Rattle.running_passes.specs.Views.{missed, wrote, sum_of, IsCounted, looked, Updates, joined_view}
+pub use Rattle.running_passes.specs.declared.pass.Pass.{Pass}
+pub use Rattle.running_passes.specs.declared.view.View.{View}
+pub use Rattle.running_model.specs.Passes.{StaysOnNoWord, parties_of, counts_of, counted, none_played, both_played, PlaysAndCounts, StillAgrees, GoesOnCounting, StaysCounting, core_played, played_add_up}
+pub use Rattle.running_model.specs.Plays.{events_of, Matches, Coming, ComesBy, IsAt, Leads, HasEnded, HasCalled, Going, Beginning, Choosing, Led, MayStep, Went, IsPlayed}
+pub use Rattle.running_model.specs.Slots.{Slot, Parties, slot_at, all_of}
+pub use Rattle.running_model.specs.Stages.{IsPassOf, key_of}
+pub use Rattle.running_model.specs.Words.{IsOnNoWord, on_no_word, AllHold}
 pub use Rattle.std.specs.Int.{w128, w64}
 pub use Rattle.std.specs.Prelude.{◌≡◌, ◌≢◌, Bool, true, false, cond, List, [], ◌∷◌, ℕ, ◌⊎◌, eqb, ◌&&◌, not, Option, Some, None, ◌++◌, length, slice_index, codes, ◌≤◌, MatchBool, nat_lt}
-pub use Rattle.steps_atomic.specs.Register.{RegisterAct, register_after, acts_of_run, ends_at_look, choice_for, plain, update, after_acts, acts_at, answer_to, value_after, Outcome, choice_of, act_by}
-pub use Rattle.steps_atomic.specs.Table.{atomic_table, atomic_begins, atomic_grant, puts, inside, knows, look_at, compares}
-pub use Rattle.steps_atomic.specs.declared.AtomicPlace.{AtomicPlace}
-pub use Rattle.steps_events.specs.Arithmetic.{Arithmetic, IsValue, IsClosed}
-pub use Rattle.steps_events.specs.Integers.{i128_arithmetic, i64_arithmetic, u128_arithmetic, u64_arithmetic}
-pub use Rattle.steps_events.specs.Moves.{hold_fault, CallValues, stage_of}
-pub use Rattle.steps_events.specs.Past.{PendingCall, call_of, hold_or, word_in}
-pub use Rattle.steps_events.specs.Runs.{IsPast}
-pub use Rattle.steps_events.specs.declared.event.Act.{Act}
-pub use Rattle.steps_events.specs.declared.event.Answer.{Answer}
-pub use Rattle.steps_events.specs.declared.event.Call.{Call}
-pub use Rattle.steps_events.specs.declared.event.Event.{Event}
-pub use Rattle.steps_events.specs.declared.event.Word.{Word}
-pub use Rattle.steps_events.specs.declared.hold.HoldKind.{HoldKind}
-pub use Rattle.steps_events.specs.declared.row.After.{After}
-pub use Rattle.steps_events.specs.declared.row.Intent.{Intent}
-pub use Rattle.tallies.specs.Counts.{count_at, one_more, both_counts, counts_swap, counts_group}
-pub use Rattle.tallies.specs.Held.{TellsSame, Locks, write_holds, both_held, read_holds}
-pub use Rattle.tallies.specs.declared.held.Held.{Held}
-pub use Rattle.tallies.specs.declared.held.Held.TheVariants.{Free, Reading, Writing, Torn}
+pub use Rattle.model_atomic.specs.Register.{RegisterAct, register_after, acts_of_run, ends_at_look, choice_for, plain, update, after_acts, acts_at, answer_to, value_after, Outcome, choice_of, act_by}
+pub use Rattle.model_atomic.specs.Table.{atomic_table, atomic_begins, atomic_grant, puts, inside, knows, look_at, compares}
+pub use Rattle.model_atomic.specs.declared.AtomicPlace.{AtomicPlace}
+pub use Rattle.model_events.specs.Arithmetic.{Arithmetic, IsValue, IsClosed}
+pub use Rattle.model_events.specs.Integers.{i128_arithmetic, i64_arithmetic, u128_arithmetic, u64_arithmetic}
+pub use Rattle.model_events.specs.Moves.{hold_fault, CallValues, stage_of}
+pub use Rattle.model_events.specs.Past.{PendingCall, call_of, hold_or, word_in}
+pub use Rattle.model_events.specs.Runs.{IsPast}
+pub use Rattle.model_events.specs.declared.event.Act.{Act}
+pub use Rattle.model_events.specs.declared.event.Answer.{Answer}
+pub use Rattle.model_events.specs.declared.event.Call.{Call}
+pub use Rattle.model_events.specs.declared.event.Event.{Event}
+pub use Rattle.model_events.specs.declared.event.Word.{Word}
+pub use Rattle.model_events.specs.declared.hold.HoldKind.{HoldKind}
+pub use Rattle.model_events.specs.declared.row.After.{After}
+pub use Rattle.model_events.specs.declared.row.Intent.{Intent}
+pub use Rattle.running_tallies.specs.Counts.{count_at, one_more, both_counts, counts_swap, counts_group}
+pub use Rattle.running_tallies.specs.Held.{TellsSame, Locks, write_holds, both_held, read_holds}
+pub use Rattle.running_tallies.specs.declared.held.Held.{Held}
+pub use Rattle.running_tallies.specs.declared.held.Held.TheVariants.{Free, Reading, Writing, Torn}

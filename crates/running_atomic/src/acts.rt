@@ -1,21 +1,21 @@
 //! What each call does: it takes the lock, reads, acts, and leaves.
 ghost use Rattle.std.specs.Prelude.{◌≡◌, List, false, MatchBool, IfOk, IfErr, Some, None};
-ghost use Rattle.steps_events.specs.declared.event.Call.TheVariants as calls;
-ghost use Rattle.steps_events.specs.declared.event.Answer.TheVariants as answers;
-ghost use Rattle.steps_events.specs.declared.hold.HoldKind.TheVariants as kinds;
-ghost use Rattle.steps_events.specs.declared.row.After.TheVariants as afters;
-ghost use Rattle.steps_events.specs.Arithmetic.{IsValue};
-ghost use Rattle.steps_events.specs.Moves.{CallValues};
-ghost use Rattle.steps_atomic.specs.Table.{atomic_grant, inside, compares, knows};
-ghost use Rattle.tallies.specs.declared.held.Held.TheVariants.{Free};
-ghost use Rattle.passes.specs.Passes.{IsSamePass};
-ghost use Rattle.playing.specs.Slots.{Slot};
-ghost use Rattle.playing.specs.Plays.{HasCalled};
-ghost use Rattle.playing.specs.Passes.{played, parties_of, counts_of, counted};
-ghost use Rattle.playing.specs.Stages.{IsPassOf, key_of};
+ghost use Rattle.model_events.specs.declared.event.Call.TheVariants as calls;
+ghost use Rattle.model_events.specs.declared.event.Answer.TheVariants as answers;
+ghost use Rattle.model_events.specs.declared.hold.HoldKind.TheVariants as kinds;
+ghost use Rattle.model_events.specs.declared.row.After.TheVariants as afters;
+ghost use Rattle.model_events.specs.Arithmetic.{IsValue};
+ghost use Rattle.model_events.specs.Moves.{CallValues};
+ghost use Rattle.model_atomic.specs.Table.{atomic_grant, inside, compares, knows};
+ghost use Rattle.running_tallies.specs.declared.held.Held.TheVariants.{Free};
+ghost use Rattle.running_passes.specs.Passes.{IsSamePass};
+ghost use Rattle.running_model.specs.Slots.{Slot};
+ghost use Rattle.running_model.specs.Plays.{HasCalled};
+ghost use Rattle.running_model.specs.Passes.{played, parties_of, counts_of, counted};
+ghost use Rattle.running_model.specs.Stages.{IsPassOf, key_of};
 ghost use Rattle.running_atomic.specs.AtomicParties.{Writes, AsksNobody, IsNext, Reads, GoesOnKnowing, ActsAtOther, Knows, Puts, MayPut, HasPut, HasReplaced};
 ghost use Rattle.running_atomic.specs.AtomicModel.{atomic_model};
-ghost use Rattle.steps_atomic.specs.Register.{act_of as outcome_of, compared, plain, update, value_after, answer_to};
+ghost use Rattle.model_atomic.specs.Register.{act_of as outcome_of, compared, plain, update, value_after, answer_to};
 ghost use Rattle.running_atomic.specs.AtomicRule.{act_in, value_of};
 ghost use Rattle.running_atomic.specs.AtomicSteps.{IsSettled, IfWriting, IsStoring, ActsAt};
 
@@ -23,12 +23,12 @@ use crate::begins::FetchUpdateCall;
 use crate::calls::Atomic;
 use crate::history::{AtomicAct, Content};
 use crate::steps::{Comparison, Going, PlayedPass};
-use playing::turn::{Called, Choice, Chooses, Chosen, Nothing, Turn, TurnWith, Way};
+use model_events::atomic::internal::AtomicInteger;
+use model_events::event::Call;
+use running_model::turn::{Called, Choice, Chooses, Chosen, Nothing, Turn, TurnWith, Way};
 use std::alloc::Allocator;
 use std::marker::Brand;
 use std::sync::Wait;
-use steps_events::atomic::internal::AtomicInteger;
-use steps_events::event::Call;
 
 /// The words of a value.
 #[inline(always)]

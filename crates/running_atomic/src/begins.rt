@@ -1,12 +1,12 @@
 //! The calls of an atomic that are named by a type. The others name a value too: their callers pick them (`Brand`).
 
-use playing::turn::Called;
+use running_model::turn::Called;
 
 /// A `Load`.
 pub(crate) struct LoadCall;
 
 impl<T> Called<T> for LoadCall {
-    ghost use Rattle.steps_events.specs.declared.event.Call.TheVariants as calls;
+    ghost use Rattle.model_events.specs.declared.event.Call.TheVariants as calls;
 
     ghost call = { calls.Load };
 }
@@ -15,7 +15,7 @@ impl<T> Called<T> for LoadCall {
 pub(crate) struct FetchUpdateCall;
 
 impl<T> Called<T> for FetchUpdateCall {
-    ghost use Rattle.steps_events.specs.declared.event.Call.TheVariants as calls;
+    ghost use Rattle.model_events.specs.declared.event.Call.TheVariants as calls;
 
     ghost call = { calls.FetchUpdate };
 }

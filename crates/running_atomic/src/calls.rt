@@ -1,15 +1,15 @@
 //! The atomic, and its calls.
 ghost use Rattle.std.specs.Prelude.{◌≡◌, IfOk, IfErr, Some, None};
-ghost use Rattle.steps_events.specs.declared.event.Call.TheVariants as calls;
-ghost use Rattle.steps_events.specs.declared.event.Answer.TheVariants as answers;
-ghost use Rattle.steps_atomic.specs.Table.{inside};
-ghost use Rattle.passes.specs.Passes.{view};
-ghost use Rattle.passes.specs.Views.{first_view};
-ghost use Rattle.playing.specs.Slots.{no_parties};
-ghost use Rattle.playing.specs.Passes.{played};
-ghost use Rattle.playing.specs.Stages.{count_of};
+ghost use Rattle.model_events.specs.declared.event.Call.TheVariants as calls;
+ghost use Rattle.model_events.specs.declared.event.Answer.TheVariants as answers;
+ghost use Rattle.model_atomic.specs.Table.{inside};
+ghost use Rattle.running_passes.specs.Passes.{view};
+ghost use Rattle.running_passes.specs.Views.{first_view};
+ghost use Rattle.running_model.specs.Slots.{no_parties};
+ghost use Rattle.running_model.specs.Passes.{played};
+ghost use Rattle.running_model.specs.Stages.{count_of};
 ghost use Rattle.running_atomic.specs.AtomicParties.{Writes};
-ghost use Rattle.steps_atomic.specs.Register.{plain, update};
+ghost use Rattle.model_atomic.specs.Register.{plain, update};
 ghost use Rattle.running_atomic.specs.History.{no_acts};
 ghost use Rattle.running_atomic.specs.AtomicSteps.{OneHistory};
 
@@ -17,13 +17,13 @@ use crate::history::AtomicTally;
 use crate::pass::AtomicPass;
 use crate::script::AtomicScript;
 use crate::shown::AtomicShown;
-use playing::Stage;
+use model_atomic::{AtomicPlace, closed};
+use model_events::atomic::internal::AtomicInteger;
+use model_events::event::Call;
+use running_model::Stage;
 use std::alloc::{AllocError, Allocator, Global};
 use std::sync::Wait;
 use std::sync::atomic::Ordering;
-use steps_atomic::{AtomicPlace, closed};
-use steps_events::atomic::internal::AtomicInteger;
-use steps_events::event::Call;
 
 /// An integer that threads read and write whole, as one register. Each call acts once, under a lock inside; `load` and `shown` hold it
 /// with other readers, the others alone. A call that finds it taken tries again by itself, and after 10000

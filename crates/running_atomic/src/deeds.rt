@@ -5,10 +5,10 @@ ghost use Rattle.running_atomic.specs.declared.history.AtomicAct.TheVariants as 
 ghost use Rattle.running_atomic.specs.AtomicSteps as steps;
 
 use crate::history::AtomicTally;
-use passes::{Deed, Rule};
-use playing::Counts;
+use model_events::atomic::internal::AtomicInteger;
+use running_model::Counts;
+use running_passes::{Deed, Rule};
 use std::marker::{Brand, PhantomData};
-use steps_events::atomic::internal::AtomicInteger;
 
 /// The data words are the register after the one history that all passes know, unless a write hold stands.
 impl<T: AtomicInteger> Rule<(), T> for AtomicTally {
@@ -36,7 +36,7 @@ impl<T: AtomicInteger> Counts<T, T> for AtomicTally {
 pub(crate) struct Look;
 
 impl<T: AtomicInteger> Deed<T, AtomicTally> for Look {
-    ghost use Rattle.passes.specs.Views.{looked};
+    ghost use Rattle.running_passes.specs.Views.{looked};
 
     ghost tells = { λ _ _ _ before found after. after ≡ looked before found };
 }
@@ -117,7 +117,7 @@ impl<T: AtomicInteger> Deed<T, AtomicTally> for EndUnchanged {
 
 /// The act of a call that compares, and the value that it compares with: with `Brand` its caller picks them.
 pub(crate) trait Compares<T> {
-    ghost use Rattle.steps_events.specs.Arithmetic.{Arithmetic};
+    ghost use Rattle.model_events.specs.Arithmetic.{Arithmetic};
 
     ghost act: { AtomicAct };
 

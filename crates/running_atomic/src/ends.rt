@@ -1,11 +1,11 @@
 //! The ends of atomics, one for each type: a caller of a function that is generic in the integer, and takes an atomic by value, is one that
 //! the borrow checker does not cover, since the bound of its `Stage` names the places, a type made of the integer.
-ghost use Rattle.steps_events.specs.Integers.{u64_arithmetic, u128_arithmetic, i64_arithmetic, i128_arithmetic};
+ghost use Rattle.model_events.specs.Integers.{u64_arithmetic, u128_arithmetic, i64_arithmetic, i128_arithmetic};
 
 use crate::calls::Atomic;
 use crate::pass::AtomicPass;
+use model_events::atomic::internal::AtomicInteger;
 use std::alloc::Allocator;
-use steps_events::atomic::internal::AtomicInteger;
 
 impl<A: Allocator> Atomic<u64, A> {
     ghost use Rattle.running_atomic.specs.AtomicShown.{IsAtomicPass, opening_of, IsLastOf, IsLastInRun};

@@ -3,9 +3,9 @@ ghost use Rattle.std.specs.Prelude.{ℕ, List};
 ghost use Rattle.running_atomic.specs.declared.history.Place.{Place};
 ghost use Rattle.running_atomic.specs.declared.history.AtomicAct.{AtomicAct};
 
-use passes::Tally;
+use running_passes::Tally;
+use running_tallies::{Held, Known};
 use std::marker::Model;
-use tallies::{Held, Known};
 
 /// A value, as its two words.
 #[derive(Drop)]

@@ -1,28 +1,28 @@
 //! How a call takes the lock.
 ghost use Rattle.std.specs.Prelude.{◌≡◌, List, Some, None};
-ghost use Rattle.steps_events.specs.declared.event.Call.TheVariants as calls;
-ghost use Rattle.steps_events.specs.declared.hold.HoldKind.TheVariants as kinds;
-ghost use Rattle.steps_events.specs.Moves.{CallValues};
-ghost use Rattle.steps_atomic.specs.declared.AtomicPlace.TheVariants as places;
-ghost use Rattle.steps_atomic.specs.Table.{look_at, inside};
-ghost use Rattle.tallies.specs.declared.held.Held.TheVariants.{Free};
-ghost use Rattle.playing.specs.Slots.{Slot, all_of};
-ghost use Rattle.playing.specs.Passes.{parties_of, counts_of};
-ghost use Rattle.playing.specs.Stages.{IsPassOf, key_of};
+ghost use Rattle.model_events.specs.declared.event.Call.TheVariants as calls;
+ghost use Rattle.model_events.specs.declared.hold.HoldKind.TheVariants as kinds;
+ghost use Rattle.model_events.specs.Moves.{CallValues};
+ghost use Rattle.model_atomic.specs.declared.AtomicPlace.TheVariants as places;
+ghost use Rattle.model_atomic.specs.Table.{look_at, inside};
+ghost use Rattle.running_tallies.specs.declared.held.Held.TheVariants.{Free};
+ghost use Rattle.running_model.specs.Slots.{Slot, all_of};
+ghost use Rattle.running_model.specs.Passes.{parties_of, counts_of};
+ghost use Rattle.running_model.specs.Stages.{IsPassOf, key_of};
 ghost use Rattle.running_atomic.specs.AtomicParties.{Writes, IsNext};
 ghost use Rattle.running_atomic.specs.AtomicSteps.{IsReading, IsSettled};
 
 use crate::calls::Atomic;
 use crate::steps::{Going, PlayedPass};
-use playing::turn::Called;
+use model_events::SPIN_REPETITIONS;
+use model_events::atomic::internal::AtomicInteger;
+use model_events::event::Call;
+use model_rw_reader::reader_enters;
+use running_model::turn::Called;
 use std::alloc::Allocator;
 use std::hint::spin_loop;
 use std::sync::Wait;
 use std::thread;
-use steps_events::SPIN_REPETITIONS;
-use steps_events::atomic::internal::AtomicInteger;
-use steps_events::event::Call;
-use steps_rw_reader::reader_enters;
 
 /// What a call does before it tries again, and how often it has then tried: it spins 10000 times, and from then on yields, so that whoever
 /// has the lock can run.

@@ -1,16 +1,16 @@
 //! The right to call an atomic.
 ghost use Rattle.std.specs.Prelude.{◌≡◌, true, [], IfOk, is_ok};
-ghost use Rattle.playing.specs.Slots.{no_parties, both_parties};
-ghost use Rattle.playing.specs.Passes.{counts_of};
-ghost use Rattle.passes.specs.Parts.{half, IsAgain, IsSamePart, AddUp};
-ghost use Rattle.passes.specs.declared.part.Part.{Part};
-ghost use Rattle.tallies.specs.declared.held.Held.TheVariants.{Free};
+ghost use Rattle.running_model.specs.Slots.{no_parties, both_parties};
+ghost use Rattle.running_model.specs.Passes.{counts_of};
+ghost use Rattle.running_passes.specs.Parts.{half, IsAgain, IsSamePart, AddUp};
+ghost use Rattle.running_passes.specs.declared.part.Part.{Part};
+ghost use Rattle.running_tallies.specs.declared.held.Held.TheVariants.{Free};
 
 use crate::calls::Atomic;
 use crate::script::PlayedAtomic;
-use passes::Pass;
+use model_events::atomic::internal::AtomicInteger;
+use running_passes::Pass;
 use std::alloc::Allocator;
-use steps_events::atomic::internal::AtomicInteger;
 
 /// The right to call an atomic, what its owner has seen of the history, and which acts in it are its owner's. Between calls it has no
 /// hold of the lock inside.

@@ -1,16 +1,16 @@
 //! The model that an atomic plays.
 
 use crate::history::AtomicTally;
-use playing::{Played, Script};
-use steps_atomic::AtomicPlace;
-use steps_events::atomic::internal::AtomicInteger;
+use model_atomic::AtomicPlace;
+use model_events::atomic::internal::AtomicInteger;
+use running_model::{Played, Script};
 
 /// The model that an atomic plays: its words are the lock's and the two data words, and its key is the value that it opens with.
 pub struct AtomicScript;
 
 impl<T: AtomicInteger> Script<T, AtomicPlace<T>, T> for AtomicScript {
     ghost use Rattle.std.proofs.Common.{refl};
-    ghost use Rattle.steps_events.specs.declared.event.Word.TheVariants as words;
+    ghost use Rattle.model_events.specs.declared.event.Word.TheVariants as words;
     ghost use Rattle.running_atomic.specs.AtomicModel.{atomic_model, atomic_lawful, atomic_names};
 
     ghost model = { atomic_model T.arithmetic };

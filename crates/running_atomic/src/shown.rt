@@ -1,6 +1,6 @@
 //! An atomic's value, to be printed.
+use model_events::atomic::internal::AtomicInteger;
 use std::fmt::{Debug, Display, Error, Formatter, Write};
-use steps_events::atomic::internal::AtomicInteger;
 
 /// The value that an atomic had when it was loaded, which prints as `Atomic<u64> { value: 3 }`.
 #[derive(Drop)]

@@ -1,17 +1,17 @@
 //! The steps on the words of an atomic, one atomic step each.
 ghost use Rattle.std.specs.Prelude.{◌≡◌, ◌<◌, ◌-◌, ◌^◌, ◌+◌, ℕ, None};
-ghost use Rattle.tallies.specs.declared.held.Held.TheVariants.{Free};
-ghost use Rattle.passes.specs.Passes.{IsSamePass};
-ghost use Rattle.playing.specs.Plays.{Beginning, Choosing, Going, MayStep, Went};
-ghost use Rattle.playing.specs.Passes.{parties_of, counts_of, counted};
-ghost use Rattle.playing.specs.Stages.{IsPassOf, key_of};
+ghost use Rattle.running_tallies.specs.declared.held.Held.TheVariants.{Free};
+ghost use Rattle.running_passes.specs.Passes.{IsSamePass};
+ghost use Rattle.running_model.specs.Plays.{Beginning, Choosing, Going, MayStep, Went};
+ghost use Rattle.running_model.specs.Passes.{parties_of, counts_of, counted};
+ghost use Rattle.running_model.specs.Stages.{IsPassOf, key_of};
 ghost use Rattle.running_atomic.specs.AtomicModel.{atomic_model, atomic_names};
 ghost use Rattle.running_atomic.specs.AtomicParties.{Writes, IsAtHigh, IsAtLook, ComesAgain, IsAtPutHigh};
 ghost use Rattle.running_atomic.specs.declared.history.AtomicAct.TheVariants as act;
 ghost use Rattle.running_atomic.specs.AtomicRule.{act_in};
-ghost use Rattle.steps_events.specs.declared.event.Call.TheVariants as calls;
-ghost use Rattle.steps_events.specs.Moves.{CallValues};
-ghost use Rattle.passes.specs.Views.{looked};
+ghost use Rattle.model_events.specs.declared.event.Call.TheVariants as calls;
+ghost use Rattle.model_events.specs.Moves.{CallValues};
+ghost use Rattle.running_passes.specs.Views.{looked};
 ghost use Rattle.running_atomic.specs.AtomicSteps.{EntersRead, EntersWrite, Leaves, ReadsLow, ReadsHigh, EndsLoad, EndsStore, EndsUnchanged, StoresLow, Settles, IsReading, IsSettled, IsWriting, IsOn, IsRight, KeepsOthers, ComparesHigh, IsComparing, IsStoring};
 
 use crate::begins::LoadCall;
@@ -22,11 +22,11 @@ use crate::deeds::{
 };
 use crate::history::AtomicAct;
 use crate::script::PlayedAtomic;
-use passes::Pass;
-use playing::turn::{Called, Chooses, Goes, Nothing, Turn, Way, begin_new};
+use model_events::atomic::internal::AtomicInteger;
+use model_events::event::Call;
+use running_model::turn::{Called, Chooses, Goes, Nothing, Turn, Way, begin_new};
+use running_passes::Pass;
 use std::alloc::Allocator;
-use steps_events::atomic::internal::AtomicInteger;
-use steps_events::event::Call;
 
 /// The pass inside.
 pub(crate) type PlayedPass<T> = Pass<PlayedAtomic<T>>;
@@ -54,7 +54,7 @@ const HIGH: usize = 2;
 const WRITTEN: u64 = u64::MAX;
 
 impl<T: AtomicInteger, A: Allocator> Atomic<T, A> {
-    ghost use Rattle.steps_events.specs.declared.row.Intent.TheVariants as intents;
+    ghost use Rattle.model_events.specs.declared.row.Intent.TheVariants as intents;
 
     /// A load of the lock's word.
     #[inline(always)]

@@ -3,14 +3,14 @@ use Rattle.running_barrier.specs.Names.{sum, dite, ℕ_discrete, Word, Intent, e
 use Rattle.running_barrier.proofs.Names.{◌≡◌, ℕ, zero, suc, ◌+◌, ◌-◌, ◌*◌, ◌%◌, ◌^◌, ◌<◌, ◌≤◌, ◌==◌, eqb, Bool, true, false, cond, List, [], ◌∷◌, get_or, set, sym, refl, ap, ◌∙◌, subst, arith, length-set, get_or-set_same, ne_eqb, eqb_same}
 use Rattle.std.proofs.lemmas.List.Sums.{sum_by-cons}
 use prog.Atomic.{either}
-use Rattle.steps_events.specs.declared.event.Act.{Act}
-use Rattle.steps_events.specs.declared.event.Event.{Event}
-use Rattle.playing.proofs.OfARun.{of_a_run}
-use Rattle.passes.proofs.Sums.{sum_at}
-use Rattle.passes.proofs.Updates.{by_look, by_exchange}
-use Rattle.tallies.proofs.CountLaws.{in_both, more_in_both, more_here, more_elsewhere}
+use Rattle.model_events.specs.declared.event.Act.{Act}
+use Rattle.model_events.specs.declared.event.Event.{Event}
+use Rattle.running_model.proofs.OfARun.{of_a_run}
+use Rattle.running_passes.proofs.Sums.{sum_at}
+use Rattle.running_passes.proofs.Updates.{by_look, by_exchange}
+use Rattle.running_tallies.proofs.CountLaws.{in_both, more_in_both, more_here, more_elsewhere}
 use Rattle.running_barrier.specs.BarrierSteps.{BarrierView, ArrivalsAreOfARun, OpenRoundsAreFull, reaches, Says, MadeAll, Loaded, Exchanged}
-use Rattle.tallies.specs.BarrierTally.{rounds_add_up}
+use Rattle.running_tallies.specs.BarrierTally.{rounds_add_up}
 use Rattle.running_barrier.specs.BarrierShown.{BarrierPass, counts_of, arrivals_of, IsNextWord}
 
 -- counts

@@ -2,13 +2,13 @@
 use Rattle.running_barrier.specs.Names.{nat_lt, dite, ℕ_discrete, Word, Call, Answer, Then, Intent, BarrierPlace, epoch_of, count_of, opened, with_arrival, barrier_intent, barrier_model, Slot, Parties, all_of, Coming, Going, Beginning, Answered, ComesBy, IsAt, Led, Leads, HasEnded, MayStep, Went}
 use Rattle.running_barrier.proofs.Names.{◌≡◌, ◌≢◌, ℕ, ◌+◌, ◌<◌, ◌≤◌, ◌==◌, Bool, true, false, cond, refl, sym, ap, subst, List, [], ◌∷◌, None, arith, ne_eqb, eqb_same}
 use Rattle.std.proofs.lemmas.Bool.Decides.{nat_tests}
-use Rattle.steps_events.specs.declared.WaitAction.{WaitAction}
-use Rattle.steps_events.specs.declared.event.Wake.{Wake}
-use Rattle.steps_events.specs.declared.row.After.{After}
-use Rattle.steps_events.specs.Rows.{within}
-use Rattle.playing.specs.Words.{IsNamed}
-use Rattle.playing.specs.Turns.{IsOverAside}
-use Rattle.playing.specs.Tries.{spun, StandsToWait, IsToWake}
+use Rattle.model_events.specs.declared.WaitAction.{WaitAction}
+use Rattle.model_events.specs.declared.event.Wake.{Wake}
+use Rattle.model_events.specs.declared.row.After.{After}
+use Rattle.model_events.specs.Rows.{within}
+use Rattle.running_model.specs.Words.{IsNamed}
+use Rattle.running_model.specs.Turns.{IsOverAside}
+use Rattle.running_model.specs.Tries.{spun, StandsToWait, IsToWake}
 use Rattle.running_barrier.specs.BarrierShown.{IsNextWord}
 use Rattle.running_barrier.specs.BarrierParties.{HasLooked, HasJoined, ComesToStay, Looks, HasLeft}
 

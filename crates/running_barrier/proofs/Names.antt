@@ -1,4 +1,4 @@
 -- The lemmas of others that this crate cites.
 pub use Rattle.std.proofs.Common.{rules, ◌≡◌, ◌<◌, sym, subst, ◌%◌, ◌^◌, arith, ℕ, ◌+◌, ◌∙◌, zero, suc, ◌-◌, ◌*◌, ◌≤◌, ◌==◌, eqb, Bool, true, false, cond, List, [], ◌∷◌, get_or, set, refl, ap, length-set, get_or-set_same, ◌≢◌, None}
 pub use Rattle.std.proofs.lemmas.Bool.{ne_eqb}
-pub use Rattle.steps_events.proofs.Holds.{eqb_same}
+pub use Rattle.model_events.proofs.Holds.{eqb_same}

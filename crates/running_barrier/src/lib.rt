@@ -6,21 +6,21 @@
 #![tactic(auto)]
 
 ghost use Rattle.std.specs.Prelude.{◌≡◌, ℕ, ◌≢◌, ◌<◌, ◌≤◌, ◌+◌, IfOk, MatchBool};
-ghost use Rattle.playing.specs.Passes.{parties_of, counts_of as tally_of, counted};
-ghost use Rattle.playing.specs.Stages.{count_of as words_of, key_of};
+ghost use Rattle.running_model.specs.Passes.{parties_of, counts_of as tally_of, counted};
+ghost use Rattle.running_model.specs.Stages.{count_of as words_of, key_of};
 ghost use Rattle.running_barrier.specs.BarrierSteps.{ArrivalsAreOfARun, OpenRoundsAreFull};
-ghost use Rattle.steps_barrier.specs.Rounds.{epoch_of, count_of};
+ghost use Rattle.model_barrier.specs.Rounds.{epoch_of, count_of};
 
-use passes::{Deed, Origin, Pass};
-use playing::turn::{Called, Goes, Turn, Way, begin_new};
-use playing::{Sealed, Stage};
+use model_barrier::{BarrierPlace, arrived, count_of, epoch_of};
+use model_events::SPIN_REPETITIONS;
+use running_model::turn::{Called, Goes, Turn, Way, begin_new};
+use running_model::{Sealed, Stage};
+use running_passes::{Deed, Origin, Pass};
+use running_tallies::{BarrierScript, PlayedBarrier, Rounds, WaitWord};
 use std::alloc::{AllocError, Allocator, Global};
 use std::hint::spin_loop;
 use std::ops::Deref;
 use std::sync::Wait;
-use steps_barrier::{BarrierPlace, arrived, count_of, epoch_of};
-use steps_events::SPIN_REPETITIONS;
-use tallies::{BarrierScript, PlayedBarrier, Rounds, WaitWord};
 
 /// A barrier for a fixed number of waiters.
 #[derive(Drop)]
@@ -33,7 +33,7 @@ pub struct Barrier<A: Allocator = Global> {
 
 /// What the passes of a barrier come from, at which they are split and joined.
 impl<A: Allocator> Deref for Barrier<A> {
-    ghost use Rattle.playing.specs.Stages.{origin};
+    ghost use Rattle.running_model.specs.Stages.{origin};
 
     type Target = Origin<u32, PlayedBarrier, A>;
 
@@ -76,30 +76,30 @@ impl Deed<u32, Rounds> for Arrive {
 struct WaitCall;
 
 impl Called<u64> for WaitCall {
-    ghost use Rattle.steps_events.specs.declared.event.Call.TheVariants as calls;
+    ghost use Rattle.model_events.specs.declared.event.Call.TheVariants as calls;
 
     ghost call = { calls.Wait };
 }
 
 impl<A: Allocator> Barrier<A> {
     ghost use Rattle.std.specs.Prelude.{true, false, ◌+◌, ◌%◌, ◌/◌, ◌*◌, ◌^◌, ◌≢◌, [], ◌∷◌, MatchBool, MatchOption, IfSome, IfErr, is_ok, is_err, Some, List};
-    ghost use Rattle.steps_events.specs.declared.event.Word.TheVariants as words;
-    ghost use Rattle.steps_events.specs.declared.event.Call.TheVariants as calls;
-    ghost use Rattle.steps_events.specs.declared.event.Answer.TheVariants as answers;
-    ghost use Rattle.steps_events.specs.declared.row.Intent.TheVariants as intents;
-    ghost use Rattle.tallies.specs.BarrierScript.{barrier_model};
-    ghost use Rattle.passes.specs.Answers.{HasWoken};
-    ghost use Rattle.passes.specs.Parts.{IsWhole};
-    ghost use Rattle.passes.specs.Views.{first_view};
-    ghost use Rattle.passes.specs.Passes.{view, part_of, sights_of, IsSamePass};
-    ghost use Rattle.playing.specs.Slots.{Slot, no_parties};
-    ghost use Rattle.playing.specs.Plays.{MayStep, Went, Beginning};
-    ghost use Rattle.playing.specs.Passes.{played};
-    ghost use Rattle.playing.specs.Counts.{HasSeen};
-    ghost use Rattle.playing.specs.Stages.{id_of};
-    ghost use Rattle.passes.specs.Sights.{stale};
-    ghost use Rattle.tallies.specs.BarrierRule.{no_rounds, word_of};
-    ghost use Rattle.tallies.specs.Shown.{object_shown, index_shown};
+    ghost use Rattle.model_events.specs.declared.event.Word.TheVariants as words;
+    ghost use Rattle.model_events.specs.declared.event.Call.TheVariants as calls;
+    ghost use Rattle.model_events.specs.declared.event.Answer.TheVariants as answers;
+    ghost use Rattle.model_events.specs.declared.row.Intent.TheVariants as intents;
+    ghost use Rattle.running_tallies.specs.BarrierScript.{barrier_model};
+    ghost use Rattle.running_passes.specs.Answers.{HasWoken};
+    ghost use Rattle.running_passes.specs.Parts.{IsWhole};
+    ghost use Rattle.running_passes.specs.Views.{first_view};
+    ghost use Rattle.running_passes.specs.Passes.{view, part_of, sights_of, IsSamePass};
+    ghost use Rattle.running_model.specs.Slots.{Slot, no_parties};
+    ghost use Rattle.running_model.specs.Plays.{MayStep, Went, Beginning};
+    ghost use Rattle.running_model.specs.Passes.{played};
+    ghost use Rattle.running_model.specs.Counts.{HasSeen};
+    ghost use Rattle.running_model.specs.Stages.{id_of};
+    ghost use Rattle.running_passes.specs.Sights.{stale};
+    ghost use Rattle.running_tallies.specs.BarrierRule.{no_rounds, word_of};
+    ghost use Rattle.running_tallies.specs.Shown.{object_shown, index_shown};
     ghost use Rattle.running_barrier.specs.BarrierSteps.{Loaded, Exchanged, HasAll};
     ghost use Rattle.running_barrier.specs.BarrierParties.{HasLooked, HasJoined, ComesToStay, Looks, HasLeft, OnceLooked, OnceToStay, OnceLooking};
     ghost use Rattle.running_barrier.specs.BarrierShown.{IsBarrierPass, waiters_of, reached_of, opened_of, HasArrived, HasLookedOnce, HasStayed, HasPassed, IsNextWord, HasPlayed, HasFilled};

@@ -1,11 +1,11 @@
 -- What becomes of what a pass knows over several exchanges.
 use Rattle.running_guarded.specs.Names.{Bool, true, false, MatchBool, Some, None, List, Bor, Shared, seen_instead, MayAnswerContinue, WaitAction, Call, HoldKind, MutexPlace, mutex_model, Slot, all_of, Coming, Going, Beginning, Answered, ComesBy, MayStep, spun, IsGranted, IsRefused, IsStanding, HasMutex, IsLocked, Locks, Enters}
 use Rattle.running_guarded.proofs.Names.{◌≡◌, ◌≤◌, ◌<◌, ℕ, ◌+◌, [], ◌∷◌, refl, ap, subst, arith, may_lock, lock_begins, lock_goes, granted_has}
-use Rattle.steps_events.specs.declared.event.Word.{Word}
-use Rattle.steps_events.specs.declared.row.Intent.{Intent}
-use Rattle.steps_events.specs.Rows.{answered}
-use Rattle.steps_events.specs.declared.patience.Patience.{Patience}
-use Rattle.playing.proofs.Patience.{spins_on, stands, tries_on}
+use Rattle.model_events.specs.declared.event.Word.{Word}
+use Rattle.model_events.specs.declared.row.Intent.{Intent}
+use Rattle.model_events.specs.Rows.{answered}
+use Rattle.model_events.specs.declared.patience.Patience.{Patience}
+use Rattle.running_model.proofs.Patience.{spins_on, stands, tries_on}
 use Rattle.running_guarded.specs.GuardedRule.{MutexView}
 use Rattle.running_spin_lock.proofs.ValueSights as values
 use Rattle.running_guarded.specs.GuardedSteps.{SeesLocked, Tries, SeesLockedOften, GivesUp}

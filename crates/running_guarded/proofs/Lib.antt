@@ -2,3 +2,4 @@ pub mod Names
 pub mod GuardedSights
 pub mod SameGuard
 pub mod Acting
+pub mod Looks

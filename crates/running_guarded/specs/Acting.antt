@@ -1,5 +1,5 @@
 -- What a closure did that acts on a value, or cannot yet.
-use Rattle.running_guarded.specs.Names.{MutBor, Mut, CalledAtMut, Option, Some}
+use Rattle.running_guarded.specs.Names.{ℕ, MutBor, Mut, CalledAtMut, Option, Some}
 use Rattle.running_guarded.specs.declared.when.Looked.{Looked}
 use Rattle.running_guarded.specs.declared.when.Looked.TheVariants.{Acted, Again, GaveUp}
 
@@ -24,3 +24,9 @@ module _ {X : Type 0} where
   IfGaveUp (Acted x) P = Unit {0}
   IfGaveUp Again P = Unit {0}
   IfGaveUp GaveUp P = P
+
+  -- how often it waited
+  abbrev pub waits_of : Looked X → ℕ
+  waits_of (Acted x) = 0
+  waits_of Again = 1
+  waits_of GaveUp = 1

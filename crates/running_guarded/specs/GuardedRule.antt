@@ -1,7 +1,7 @@
 -- What a pass of a guarded value knows, and what the rule over all of them says.
-use Rattle.passes.specs.declared.view.View.{View}
+use Rattle.running_passes.specs.declared.view.View.{View}
 use Rattle.running_guarded.specs.Names.{MutexPlace, mutex_model, HasOneHolder, GrantsAreOfARunOf}
-use Rattle.tallies.specs.declared.mutex.MutexScript.{MutexScript}
+use Rattle.running_tallies.specs.declared.mutex.MutexScript.{MutexScript}
 use Rattle.running_mutex.specs.MutexSteps.{PlayedMutex}
 
 -- what a pass knows

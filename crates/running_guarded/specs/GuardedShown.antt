@@ -1,12 +1,12 @@
 -- What contracts see of a guarded value, its pass and its guard, and what a call changes in a pass.
-use Rattle.running_guarded.specs.Names.{◌≡◌, ℕ, ◌+◌, ◌<◌, ◌≤◌, GName, Bor, Shared, TableId, WaitAction, IsWhole, HasWritten, view_in, Locks, Lets, Enters}
-use Rattle.passes.specs.declared.part.Part.{Part}
-use Rattle.passes.specs.declared.part.Sights.{Sights}
+use Rattle.running_guarded.specs.Names.{◌≡◌, ℕ, ◌+◌, ◌<◌, ◌≤◌, GName, Bor, Shared, TableId, WaitAction, IsWhole, HasWritten, Often, view_in, Locks, Lets, Enters}
+use Rattle.running_passes.specs.declared.part.Part.{Part}
+use Rattle.running_passes.specs.declared.part.Sights.{Sights}
 use Rattle.running_guarded.specs.declared.pass.GuardedPass.{GuardedPass}
 use Rattle.running_guarded.specs.declared.guard.Guard.{Guard}
 use Rattle.running_guarded.specs.declared.guarded.Guarded.{Guarded}
 use Rattle.running_guarded.specs.GuardedRule.{MutexView}
-use Rattle.running_guarded.specs.GuardedSteps.{SeesLocked, GivesUp}
+use Rattle.running_guarded.specs.GuardedSteps.{SeesLocked, GivesUp, PlaysBoth}
 
 -- which value the pass belongs to, and which of its passes it is
 abbrev pub object_of : GuardedPass → TableId
@@ -100,3 +100,8 @@ pub record HasLockedOnce (p q : GuardedPass) : Type 0 where
   pub part : part_of q ≡ part_of p
   pub grants : grants_of q ≡ grants_of p + 1
   pub saw : HasWritten (sights_of p) (sights_of q)
+
+-- It locked by a `Lock` and unlocked, so often, and made no other call: each time it was granted once more.
+pub record HasLockedOften (times : ℕ) (p q : GuardedPass) : Type 0 where
+  pub granted : grants_of q ≡ grants_of p + times
+  pub played : Often PlaysBoth times (view p) (view q)

@@ -6,10 +6,10 @@ ghost use Rattle.running_mutex.specs.MutexParties.{HasMutex};
 use crate::guarded::Guarded;
 use crate::pass::GuardedPass;
 use atomic_table::Seat;
-use passes::View;
+use running_passes::View;
+use running_tallies::PlayedMutex;
 use std::alloc::{Allocator, Global};
 use std::ops::{Deref, DerefMut};
-use tallies::PlayedMutex;
 
 /// The value is locked by the pass that is lent to the guard, and the guard lends it. It must be spent, by `Guarded::unlock`. The value
 /// lies in the guard, so it is copied out and back: box a large one.

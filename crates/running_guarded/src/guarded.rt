@@ -1,20 +1,20 @@
 //! The guarded value itself.
 ghost use Rattle.std.specs.Prelude.{◌≡◌, ℕ, ◌<◌, ◌≤◌, ◌+◌, List, [], ◌∷◌, IfOk, IfErr, Some, None, true, false, MatchBool};
-ghost use Rattle.passes.specs.Parts.{IsWhole};
-ghost use Rattle.passes.specs.Sights.{seen_instead};
-ghost use Rattle.passes.specs.Views.{first_view};
-ghost use Rattle.passes.specs.Answers.{MayAnswerAbort, HasWoken};
-ghost use Rattle.steps_events.specs.declared.event.Word.TheVariants as words;
-ghost use Rattle.steps_events.specs.declared.event.Call.TheVariants as calls;
-ghost use Rattle.steps_events.specs.declared.event.Answer.TheVariants as answers;
-ghost use Rattle.steps_events.specs.declared.hold.HoldKind.TheVariants as kinds;
-ghost use Rattle.steps_events.specs.declared.row.Intent.TheVariants as intents;
-ghost use Rattle.steps_events.specs.declared.WaitAction.TheVariants as actions;
-ghost use Rattle.steps_mutex.specs.declared.MutexPlace.TheVariants as places;
-ghost use Rattle.tallies.specs.MutexScript.{mutex_model};
-ghost use Rattle.playing.specs.Slots.{Slot};
-ghost use Rattle.playing.specs.Plays.{Beginning, MayStep};
-ghost use Rattle.playing.specs.Tries.{spun, IsRefused, IsStanding, IsGranted, HasGivenUp as HasEndedRefused, OnceRefused, OnceStanding};
+ghost use Rattle.running_passes.specs.Parts.{IsWhole};
+ghost use Rattle.running_passes.specs.Sights.{seen_instead};
+ghost use Rattle.running_passes.specs.Views.{first_view};
+ghost use Rattle.running_passes.specs.Answers.{MayAnswerAbort, HasWoken};
+ghost use Rattle.model_events.specs.declared.event.Word.TheVariants as words;
+ghost use Rattle.model_events.specs.declared.event.Call.TheVariants as calls;
+ghost use Rattle.model_events.specs.declared.event.Answer.TheVariants as answers;
+ghost use Rattle.model_events.specs.declared.hold.HoldKind.TheVariants as kinds;
+ghost use Rattle.model_events.specs.declared.row.Intent.TheVariants as intents;
+ghost use Rattle.model_events.specs.declared.WaitAction.TheVariants as actions;
+ghost use Rattle.model_mutex.specs.declared.MutexPlace.TheVariants as places;
+ghost use Rattle.running_tallies.specs.MutexScript.{mutex_model};
+ghost use Rattle.running_model.specs.Slots.{Slot};
+ghost use Rattle.running_model.specs.Plays.{Beginning, MayStep};
+ghost use Rattle.running_model.specs.Tries.{spun, IsRefused, IsStanding, IsGranted, HasGivenUp as HasEndedRefused, OnceRefused, OnceStanding};
 ghost use Rattle.running_mutex.specs.MutexParties.{HasMutex};
 ghost use Rattle.running_mutex.specs.MutexShown.{IsLocked};
 ghost use Rattle.running_spin_lock.specs.ValueRule.{none_held};
@@ -27,16 +27,16 @@ use crate::pass::GuardedPass;
 use crate::rule::GuardedRule;
 use crate::word::GuardedWord;
 use atomic_table::{Play, Refused, Seat, Table};
-use passes::{View, WaitResult};
-use playing::Sealed;
-use playing::seat::{SeatAnswered, SeatTurn, begin_held, begin_new};
-use playing::turn::{Called, Goes, Way};
+use model_events::{SPIN_REPETITIONS, WaitAction};
+use running_model::Sealed;
+use running_model::seat::{SeatAnswered, SeatTurn, begin_held, begin_new};
+use running_model::turn::{Called, Goes, Way};
+use running_passes::{View, WaitResult};
+use running_tallies::PlayedMutex;
 use std::alloc::{AllocError, Allocator, Global};
 use std::hint::spin_loop;
 use std::sync::Wait;
 use std::thread;
-use steps_events::{SPIN_REPETITIONS, WaitAction};
-use tallies::PlayedMutex;
 
 /// A lock with one holder at most, which guards a value. It may be shared by threads where the value may go from one to another.
 #[derive(Drop)]
@@ -320,6 +320,7 @@ impl<T, A: Allocator> Guarded<T, A> {
         requires alive { 0 < seat.me.0.part.share }
         ensures same { (result.0.table_id ≡ seat.table_id) × (result.0.id ≡ seat.id) }
         ensures entered { Enters seat.me.0 result.0.me.0 }
+        ensures played { Plays calls.Lock answers.Success (Some kinds.Write) seat.me.0 result.0.me.0 }
         ensures has { HasMutex result.0.me.0.tally.parties }
         ensures vacant { has_vacant_slot result.0.me.1 ≡ true }
     {
@@ -346,6 +347,7 @@ impl<T, A: Allocator> Guarded<T, A> {
         requires may { W.IsAlwaysCallable wake_one.now }
         ensures same { (object_of result ≡ seat.table_id) × (number_of result ≡ seat.id) }
         ensures off { Lets seat.me.0 (view result) }
+        ensures played { PlaysUnlock seat.me.0 (view result) }
         ensures woke { HasWoken W.Fn wake_one.now }
     {
         GuardedPass::seated(self.leave(seat, value, wake_one))
@@ -363,7 +365,7 @@ impl<T, A: Allocator> Guarded<T, A> {
 impl<T, A: Allocator> Guarded<T, A> {
     ghost use Rattle.std.specs.Borrow.{sem};
     ghost use Rattle.std.specs.Fn.{FnOnceReturnsAtMut};
-    ghost use Rattle.passes.specs.Answers.{IfSuccess, IfInterrupted, IsSuccess, RestsIfInterrupted};
+    ghost use Rattle.running_passes.specs.Answers.{IfSuccess, IfInterrupted, IsSuccess, RestsIfInterrupted};
     ghost use Rattle.running_guarded.specs.contracts.pass.GuardedPass.{the_row};
     ghost use Rattle.running_guarded.specs.GuardedShown.{IsGuardedPass, IsAlone, IsOf, part_of, view, view_with, borrow_of, HasLocked, HasEntered, HasSeenLocked, HasGivenUp, HasUnlocked, HasStayed, HasLockedOnce};
 

@@ -1,18 +1,18 @@
 //! The right to call a guarded value.
 ghost use Rattle.std.specs.Prelude.{◌≡◌, ◌≤◌, ◌<◌, [], ◌∷◌, length, IfOk, is_ok, true};
-ghost use Rattle.passes.specs.declared.part.Part.{Part};
-ghost use Rattle.passes.specs.Parts.{half, IsAgain, IsSamePart, AddUp};
-ghost use Rattle.passes.specs.Views.{left_view, right_view, joined_view, spent_view};
-ghost use Rattle.playing.specs.Passes.{core_played};
-ghost use Rattle.tallies.specs.MutexRule.{no_holds};
+ghost use Rattle.running_passes.specs.declared.part.Part.{Part};
+ghost use Rattle.running_passes.specs.Parts.{half, IsAgain, IsSamePart, AddUp};
+ghost use Rattle.running_passes.specs.Views.{left_view, right_view, joined_view, spent_view};
+ghost use Rattle.running_model.specs.Passes.{core_played};
+ghost use Rattle.running_tallies.specs.MutexRule.{no_holds};
 ghost use Rattle.running_spin_lock.specs.ValueRule.{none_held, both_held, view_in};
 
 use crate::guarded::Guarded;
 use atomic_table::{Badge, Join, Seat, Split};
-use passes::View;
+use running_passes::View;
+use running_tallies::PlayedMutex;
 use std::alloc::Allocator;
 use std::mem;
-use tallies::PlayedMutex;
 
 /// The right to call a guarded value, and what its owner did and saw there. It has no bytes, names no type of the value, and may go to
 /// another thread. A pass that is dropped takes its part with it, so that no other is ever whole again.

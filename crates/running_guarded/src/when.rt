@@ -1,24 +1,25 @@
 //! A call that waits until it can act on the value, and one that changes it for those that wait.
-ghost use Rattle.std.specs.Prelude.{◌≡◌, ◌<◌, ◌≤◌, ◌+◌, IfSome, true, false, None};
-ghost use Rattle.passes.specs.Answers.{IfSuccess, IfInterrupted, MayAnswerAbort, HasWoken};
+ghost use Rattle.std.specs.Prelude.{◌≡◌, ℕ, suc, ◌<◌, ◌≤◌, ◌+◌, IfSome, true, false, None};
+ghost use Rattle.running_passes.specs.Answers.{IfSuccess, IfInterrupted, MayAnswerAbort, HasWoken};
 ghost use Rattle.running_semaphore.specs.SemaphoreShown.{IsEmpty};
 ghost use Rattle.running_mutex.specs.MutexParties.{HasMutex};
 ghost use Rattle.running_mutex.specs.CondShown.{IsCondPass, HasNotified, HasStayed as HasWaitedAtMost};
+ghost use Rattle.running_mutex.specs.Often.{HasWaitedOften};
 ghost use Rattle.running_spin_lock.specs.ValueSteps.{Lets, has_vacant_slot};
-ghost use Rattle.running_guarded.specs.GuardedSteps.{Acts, PlaysBoth};
-ghost use Rattle.running_guarded.specs.GuardedShown.{IsGuardedPass, HasStayed, HasLockedOnce, grants_of, object_of, number_of, view, id_of};
-ghost use Rattle.running_guarded.specs.Acting.{ActsOn, IfActed, IfGaveUp};
+ghost use Rattle.running_guarded.specs.GuardedSteps.{Acts, PlaysUnlock, PlaysBoth};
+ghost use Rattle.running_guarded.specs.GuardedShown.{IsGuardedPass, HasStayed, HasLockedOnce, HasLockedOften, grants_of, object_of, number_of, view, id_of};
+ghost use Rattle.running_guarded.specs.Acting.{ActsOn, IfActed, IfGaveUp, waits_of};
 
 use crate::guarded::{Guarded, go_on};
 use crate::pass::GuardedPass;
 use crate::word::GuardedWord;
 use atomic_table::Seat;
-use passes::{View, WaitResult};
+use model_events::WaitAction;
 use running_mutex::condition_variable::{CondPass, ConditionVariable, CountedWait};
+use running_passes::{View, WaitResult};
+use running_tallies::{PlayedMutex, WaitWord};
 use std::alloc::Allocator;
 use std::sync::Wait;
-use steps_events::WaitAction;
-use tallies::{PlayedMutex, WaitWord};
 
 /// What a look at the value came to.
 enum Looked<X> {
@@ -60,7 +61,7 @@ impl<T: Drop, A: Allocator> Guarded<T, A> {
         ensures waited { HasWaitedAtMost changed_pass.old changed_pass.new }
         ensures acted { IfSuccess result (ActsOn F.FnMut) }
         ensures aborted { IfInterrupted result (MayAnswerAbort W.Fn wait IsEmpty) }
-        ensures looked { grants_of pass.old + 1 ≤ grants_of pass.new }
+        ensures looked { (waits : ℕ) × HasLockedOften (suc waits) pass.old pass.new × HasWaitedOften changed.now waits changed_pass.old changed_pass.new }
         ensures looked_again { IfInterrupted result (grants_of pass.old + 2 ≤ grants_of pass.new) }
         ensures woke { HasWoken K.Fn wake_one }
     {
@@ -145,6 +146,8 @@ impl<T: Drop, A: Allocator> Guarded<T, A> {
         ensures acted { IfActed result (ActsOn F.FnMut) }
         ensures aborted { IfGaveUp result (MayAnswerAbort W.Fn wait.now IsEmpty) }
         ensures granted { grants_of pass.new ≡ grants_of pass.old + 1 }
+        ensures played { PlaysBoth (view pass.old) (view pass.new) }
+        ensures slept { HasWaitedOften changed.now (waits_of result) changed_pass.old changed_pass.new }
         ensures woke { HasWoken K.Fn wake_one.now }
     {
         let (seat, mut value) = self.enter_soon(pass.rise(), rt);
@@ -195,7 +198,9 @@ impl<T: Drop, A: Allocator> Guarded<T, A> {
         requires may { K.IsAlwaysCallable wake_one.now × W.IsAlwaysCallable wait.now }
         ensures same { (object_of result.0 ≡ seat.table_id) × (number_of result.0 ≡ seat.id) }
         ensures off { Lets seat.me.0 (view result.0) }
+        ensures played { PlaysUnlock seat.me.0 (view result.0) }
         ensures waited { HasWaitedAtMost changed_pass.old changed_pass.new }
+        ensures slept { HasWaitedOften changed.now 1 changed_pass.old changed_pass.new }
         ensures aborted { result.1 ≡ false → MayAnswerAbort W.Fn wait.now IsEmpty }
         ensures woke { HasWoken K.Fn wake_one.now }
     {
@@ -204,7 +209,7 @@ impl<T: Drop, A: Allocator> Guarded<T, A> {
             changed_pass,
             move |_: &CountedWait<'_>| -> GuardedPass
                 requires { (seat.table_id ≡ id_of self.now) × (seat.me.0.tally.counts.holds ≡ 1) × HasMutex seat.me.0.tally.parties × 0 < seat.me.0.part.share × (has_vacant_slot seat.me.1 ≡ true) × K.IsAlwaysCallable wake_one.now }
-                ensures { (object_of result ≡ seat.table_id) × (number_of result ≡ seat.id) × Lets seat.me.0 (view result) × HasWoken K.Fn wake_one.entry.now }
+                ensures { (object_of result ≡ seat.table_id) × (number_of result ≡ seat.id) × Lets seat.me.0 (view result) × PlaysUnlock seat.me.0 (view result) × HasWoken K.Fn wake_one.entry.now }
             { self.sit(seat, value, wake_one) },
             |word: &WaitWord, seen: &u64| -> WaitAction
                 requires { W.IsAlwaysCallable wait.now }
@@ -230,6 +235,7 @@ impl<T: Drop, A: Allocator> Guarded<T, A> {
         ensures stayed { HasStayed pass.old pass.new }
         ensures acted { IfSome result (ActsOn F.FnMut) }
         ensures granted { grants_of pass.new ≡ grants_of pass.old + 1 }
+        ensures played { PlaysBoth (view pass.old) (view pass.new) }
         ensures woke { HasWoken K.Fn wake_one.now }
     {
         let (seat, mut value) = self.enter_soon(pass.rise(), rt);

@@ -3,11 +3,11 @@ ghost use Rattle.std.specs.Prelude.{◌≡◌};
 
 use crate::rule::GuardedRule;
 use atomic_table::Shared;
-use passes::{View, Watched, low_half};
-use playing::{Sealed, Shown};
+use running_model::{Sealed, Shown};
+use running_passes::{View, Watched, low_half};
+use running_tallies::PlayedMutex;
 use std::sync::Wait;
 use std::time::Duration;
-use tallies::PlayedMutex;
 
 /// The word of a guarded value, as wait and wake closures see it. It can be loaded and slept on, and no more.
 #[derive(Drop)]

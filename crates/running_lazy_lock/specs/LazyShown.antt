@@ -1,9 +1,10 @@
 -- What contracts see of a lazy value and its pass, and what a call changes in a pass.
 use Rattle.std.specs.Prelude.{◌≡◌, ℕ, ◌<◌}
-use Rattle.steps_events.specs.declared.event.Call.{Call}
-use Rattle.steps_events.specs.declared.event.Answer.{Answer}
-use Rattle.passes.specs.declared.part.Part.{Part}
-use Rattle.passes.specs.declared.view.View.{View}
+use Rattle.model_events.specs.declared.event.Call.{Call}
+use Rattle.model_events.specs.declared.event.Answer.{Answer}
+use Rattle.boxcar.specs.declared.slot.Written.{Written}
+use Rattle.running_passes.specs.declared.part.Part.{Part}
+use Rattle.running_passes.specs.declared.view.View.{View}
 use Rattle.running_once.specs.declared.Runs.{Runs}
 use Rattle.running_once.specs.declared.OncePass.{OncePass}
 use Rattle.running_once.specs.OnceShown as once
@@ -60,3 +61,7 @@ HasPlayed p q = once.HasPlayed Call.CallOnce Answer.Done (once_in p) (once_in q)
 -- the word was seen once, and nothing else changed but that the pass may know of the end
 abbrev pub HasSeenOnce : LazyPass → LazyPass → Type 0
 HasSeenOnce p q = once.HasSeenOnce (once_in p) (once_in q) × (init_in q ≡ init_in p)
+
+-- the token shows that this value lies where all read it
+abbrev pub IsWritten : {T F G A : Type 0} → LazyLock T F G A → T → Written T → Type 0
+IsWritten l value written = (written.of ≡ l.value.id) × (written.value ≡ value)

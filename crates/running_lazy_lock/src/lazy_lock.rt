@@ -1,5 +1,5 @@
 //! The lazy value itself.
-ghost use Rattle.std.specs.Prelude.{◌≡◌, ◌<◌, IfOk, IfErr};
+ghost use Rattle.std.specs.Prelude.{◌≡◌, ◌<◌, IfOk, IfErr, IfSome, IfNone};
 ghost use Rattle.running_lazy_lock.specs.Given.{IsGiven};
 
 use crate::gives::Gives;
@@ -7,7 +7,7 @@ use crate::init::{Given, Init};
 use crate::pass::LazyPass;
 use boxcar::slot::{OnceSlot, Written};
 use boxcar::tag::Tag;
-use running_once::Once;
+use running_once::{Once, Ran};
 use running_spin_lock::{SpinLock, SpinPass};
 use std::alloc::{AllocError, Allocator, Global};
 use std::hint::spin_loop;
@@ -25,7 +25,7 @@ pub struct LazyLock<T, F = fn() -> T, G: Gives<T, F> = Brand, A: Allocator = Glo
 
 impl<T: Drop, F: Drop, A: Allocator + Clone> LazyLock<T, F, Brand, A> {
     ghost use Rattle.running_lazy_lock.specs.LazyShown.{IsLazyPass, known_by, known_of_init};
-    ghost use Rattle.passes.specs.Views.{first_view};
+    ghost use Rattle.running_passes.specs.Views.{first_view};
     ghost use Rattle.running_once.specs.OnceRule.{no_runs};
     ghost use Rattle.running_spin_lock.specs.ValueRule.{none_held};
 
@@ -42,7 +42,7 @@ impl<T: Drop, F: Drop, A: Allocator + Clone> LazyLock<T, F, Brand, A> {
 
 impl<T: Drop, F: Drop, G: Gives<T, F>, A: Allocator + Clone> LazyLock<T, F, G, A> {
     ghost use Rattle.running_lazy_lock.specs.LazyShown.{IsLazyPass, known_by, known_of_init};
-    ghost use Rattle.passes.specs.Views.{first_view};
+    ghost use Rattle.running_passes.specs.Views.{first_view};
     ghost use Rattle.running_once.specs.OnceRule.{no_runs};
     ghost use Rattle.running_spin_lock.specs.ValueRule.{none_held};
 
@@ -81,11 +81,12 @@ impl<T: Drop, F: Drop, G: Gives<T, F>, A: Allocator + Clone> LazyLock<T, F, G, A
 }
 
 impl<T: Drop, F: FnOnce() -> T + Drop, G: Gives<T, F>, A: Allocator> LazyLock<T, F, G, A> {
-    ghost use Rattle.passes.specs.Parts.{IsWhole};
+    ghost use Rattle.running_passes.specs.Parts.{IsWhole};
     ghost use Rattle.running_spin_lock.specs.SpinShown.{IsSpinPass, HasLockedOnce, view};
     ghost use Rattle.running_spin_lock.specs.SpinSteps.{HasPlayedBoth};
-    ghost use Rattle.steps_events.specs.declared.event.Call.TheVariants as calls;
-    ghost use Rattle.running_lazy_lock.specs.LazyShown.{IsLazyPass, IsComplete, HasForced, HasSeenOnce, HasPlayed, ended_of, part_of, init_in};
+    ghost use Rattle.model_events.specs.declared.event.Call.TheVariants as calls;
+    ghost use Rattle.running_once.specs.OnceShown.{given_by};
+    ghost use Rattle.running_lazy_lock.specs.LazyShown.{IsLazyPass, IsComplete, IsWritten, HasForced, HasSeenOnce, HasPlayed, ended_of, part_of, init_in};
 
     /// The value. Calls the closure for it, if no other call has begun to; else comes back once that has ended. A closure that forces
     /// this value itself waits for ever.
@@ -97,6 +98,29 @@ impl<T: Drop, F: FnOnce() -> T + Drop, G: Gives<T, F>, A: Allocator> LazyLock<T,
         ensures forced { HasForced pass.old pass.new }
         ensures made { ended_of pass.old < ended_of pass.new → IsGiven G.may F.post result.now }
         ensures called { ended_of pass.old < ended_of pass.new → HasPlayedBoth calls.BlockingLock (view (init_in pass.old)) (view (init_in pass.new)) }
+        ensures kept { IsComplete pass.old → HasSeenOnce pass.old pass.new }
+        ensures exact { IsWhole (part_of pass.old) → ended_of pass.new ≡ 1 }
+        ensures played { HasPlayed pass.old pass.new }
+    {
+        let (value, _ran) = LazyLock::force_shown(this, rt, pass);
+        value
+    }
+
+    /// What `force` does, and where this call ran the closure, what shows that its value lay there before the once's run ended.
+    #[inline(always)]
+    pub fn force_shown<'t, R: Wait>(
+        this: &'t Self,
+        rt: &R,
+        pass: &mut LazyPass,
+    ) -> (&'t T, Option<Ran<Written<T>>>)
+        requires own { IsLazyPass this.now pass.old }
+        requires keeps { (f : F) → G.may f → F.IsAlwaysCallable f × ((value : T) → F.post f value → G.gives f value) }
+        ensures given { IsGiven G.may G.gives result.0.now }
+        ensures forced { HasForced pass.old pass.new }
+        ensures made { ended_of pass.old < ended_of pass.new → IsGiven G.may F.post result.0.now }
+        ensures called { ended_of pass.old < ended_of pass.new → HasPlayedBoth calls.BlockingLock (view (init_in pass.old)) (view (init_in pass.new)) }
+        ensures ran { IfSome result.1 (λ ran. ended_of pass.old < ended_of pass.new × IsWritten this.now result.0.now (given_by ran)) }
+        ensures waited { IfNone result.1 (ended_of pass.new ≡ ended_of pass.old) }
         ensures kept { IsComplete pass.old → HasSeenOnce pass.old pass.new }
         ensures exact { IsWhole (part_of pass.old) → ended_of pass.new ≡ 1 }
         ensures played { HasPlayed pass.old pass.new }
@@ -114,13 +138,14 @@ impl<T: Drop, F: FnOnce() -> T + Drop, G: Gives<T, F>, A: Allocator> LazyLock<T,
                 ensures made { IsGiven G.may F.post result.value }
             { this.make(rt, init) },
         );
-        match made {
-            Some(written) => this.value.value(&written),
+        let value = match &made {
+            Some(ran) => this.value.value(ran.given()),
             None => match this.value.get() {
                 Some(value) => value,
                 None => never(rt),
             },
-        }
+        };
+        (value, made)
     }
 
     /// Calls the closure, and puts its value where all can read it. What shows that it is there.

@@ -16,10 +16,10 @@ pub struct LazyPass {
 }
 
 impl LazyPass {
-    ghost use Rattle.passes.specs.declared.part.Part.{Part};
-    ghost use Rattle.passes.specs.Parts.{half, IsAgain, IsSamePart, AddUp};
-    ghost use Rattle.passes.specs.Views.{left_view, right_view, joined_view};
-    ghost use Rattle.playing.specs.Slots.{both_parties};
+    ghost use Rattle.running_passes.specs.declared.part.Part.{Part};
+    ghost use Rattle.running_passes.specs.Parts.{half, IsAgain, IsSamePart, AddUp};
+    ghost use Rattle.running_passes.specs.Views.{left_view, right_view, joined_view};
+    ghost use Rattle.running_model.specs.Slots.{both_parties};
     ghost use Rattle.running_once.specs.OnceRule.{known_runs, both_runs};
     ghost use Rattle.running_once.specs.OnceShown.{parties_of_once};
     ghost use Rattle.running_spin_lock.specs.ValueRule.{core_held, both_held};

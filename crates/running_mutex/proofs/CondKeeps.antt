@@ -1,46 +1,71 @@
--- Each step on the count of a condition variable keeps its rule.
-use Rattle.running_mutex.specs.Names.{View, total, looked, wrote, sum_of, Updates}
-use Rattle.running_mutex.proofs.Names.{◌≡◌, ℕ, ◌+◌, ◌-◌, ◌%◌, ◌^◌, List, [], ◌∷◌, get_or, set, sym, refl, ap, ◌∙◌, arith, length-set, get_or-set_same, by_look}
-use Rattle.running_mutex.specs.declared.condition_variable.Waits.{Waits}
-use Rattle.running_mutex.specs.CondRule.{no_waits, both_waits, IsCountOf, CondAgrees, CountIsInside, went_in, went_out, Loaded, CountedIn, CountedOut}
+-- What a step makes of what a pass of the count saw and counts; and where no other pass is left and no wait of its own is there, the count is 0.
+use Rattle.running_mutex.specs.Names.{Word, Call, Intent, Coming, MayStep, Parties, View, looked, wrote}
+use Rattle.running_mutex.proofs.Names.{◌≡◌, ◌≢◌, ℕ, ◌+◌, ◌-◌, ◌%◌, ◌^◌, Bool, cond, [], ◌∷◌, sym, refl, ap, subst, ◌∙◌, arith, ne_eqb}
+use Rattle.std.specs.Prelude.{length, not}
+use Rattle.model_events.specs.declared.event.Act.{Act}
+use Rattle.model_events.specs.Past.{word_in}
+use Rattle.model_events.specs.Rows.{carried_out, value_told}
+use Rattle.model_events.proofs.Holds.{some_same, eqb_same}
+use Rattle.model_condvar.specs.Waiters.{waiting_after}
+use Rattle.model_waiters.specs.Table.{waiters_table}
+use Rattle.running_passes.specs.Views.{view_of}
+use Rattle.running_model.specs.Passes.{Told}
+use Rattle.running_model.specs.Plays.{WentAlone}
+use Rattle.running_model.specs.Sees.{sights_after}
+use Rattle.running_model.proofs.Words.{hold_at}
+use Rattle.running_mutex.specs.declared.waits.Waits.{Waits}
+use Rattle.running_mutex.specs.CondScript.{waiters_model}
+use Rattle.running_mutex.specs.CondRule.{went_in, went_out, waits_after, AreWaitsIn, CountIsInside}
 
--- the word is written, and is the number of waits inside again
-count_again : (words : List ℕ) (n : ℕ) (t u : Waits) → IsCountOf words t → n ≡ u.inside % 2 ^ 64 → IsCountOf (set words 0 n) u
-count_again words n t u is agrees = record { one_word = length-set words 0 n ∙ is.one_word; word = get_or-set_same words 0 n 0 (omega (arith, is.one_word)) ∙ agrees }
+-- what a step tells, by its act
 
-pub loads : (v : View Waits) → Updates no_waits both_waits CondAgrees v 0 (λ x. x) (Loaded v)
-loads v = by_look no_waits both_waits CondAgrees v 0 (Loaded v) (λ words homes rest is alone fits. let word = is.word in (
-  looked v (get_or words 0 0),
-  refl,
-  is,
-  record { saw = refl; alone = λ whole. let none = ap (λ (t : Waits). t.inside) (alone whole) in omega arith },
-))
+abbrev After : Act ℕ → Call ℕ → View Waits → View Waits
+After act call v = view_of v.part (sights_after act v.sights) (waits_after act call v.tally)
 
-pub counts_in : (v : View Waits) → v.tally.inside ≡ 0 → Updates no_waits both_waits CondAgrees v 0 (λ x. (x + 1) % 2 ^ 64) (λ _. CountedIn v)
-counts_in v outside = record {
-  may = λ words homes rest is alone fits. let x : ℕ = get_or words 0 0 in let word = is.word in (
-    wrote v (went_in v.tally),
-    refl,
-    count_again words ((x + 1) % 2 ^ 64) (both_waits v.tally rest) (both_waits (went_in v.tally) rest) is (omega arith),
-    record { counted = refl },
-  );
-}
+told_so : (way : Coming ℕ) (p : Parties ℕ) (found : ℕ) (v w : View Waits) (intent : Word → Intent ℕ) (may : MayStep waiters_model (Word.Waiters ∷ []) way 0 intent p) →
+    Told waiters_model sights_after waits_after way p found v w → w ≡ After (carried_out (intent Word.Waiters) (λ _. found)) may.call v
+told_so way p found v w intent may told = told may.call may.place may.hold may.done may.comes
+    ∙ ap (λ (k : Intent ℕ). After (carried_out k (λ _. found)) may.call v) (may.intends ∙ sym (ap intent may.named))
 
-pub counts_out : (v : View Waits) → v.tally.inside ≡ 1 → Updates no_waits both_waits CondAgrees v 0 (λ x. (x + (2 ^ 64 - 1)) % 2 ^ 64) (λ _. CountedOut v)
-counts_out v inside = record {
-  may = λ words homes rest is alone fits. let x : ℕ = get_or words 0 0 in let word = is.word in (
-    wrote v (went_out v.tally),
-    refl,
-    count_again words ((x + (2 ^ 64 - 1)) % 2 ^ 64) (both_waits v.tally rest) (both_waits (went_out v.tally) rest) is (omega arith),
-    record { counted = refl },
-  );
-}
+pub loads : (way : Coming ℕ) (p : Parties ℕ) (found : ℕ) (v w : View Waits) → MayStep waiters_model (Word.Waiters ∷ []) way 0 (λ k. Intent.Load k) p →
+    Told waiters_model sights_after waits_after way p found v w → w ≡ looked v found
+loads way p found v w may told = told_so way p found v w (λ k. Intent.Load k) may told
 
--- the law
+pub counts_in : (way : Coming ℕ) (p : Parties ℕ) (found : ℕ) (v w : View Waits) → MayStep waiters_model (Word.Waiters ∷ []) way 0 (λ k. Intent.Add k 1) p →
+    Told waiters_model sights_after waits_after way p found v w → w ≡ wrote v (went_in v.tally)
+counts_in way p found v w may told = told_so way p found v w (λ k. Intent.Add k 1) may told
+    ∙ ap (λ (b : Bool). wrote v (cond b (went_in v.tally) (cond (not b) (went_out v.tally) v.tally))) (eqb_same ((found + 1) % 2 ^ 64))
 
-total_inside : (views : List (View Waits)) → total (λ u. u.tally.inside) views ≡ (sum_of no_waits both_waits views).inside
-total_inside [] = refl
-total_inside (v ∷ views) = let rest = total_inside views in omega arith
+other_way : (n : ℕ) → ((n + (2 ^ 64 - 1)) % 2 ^ 64) ≢ ((n + 1) % 2 ^ 64)
+other_way n same = absurd (omega (arith, same))
 
+pub counts_out : (way : Coming ℕ) (p : Parties ℕ) (found : ℕ) (v w : View Waits) → MayStep waiters_model (Word.Waiters ∷ []) way 0 (λ k. Intent.Subtract k 1) p →
+    Told waiters_model sights_after waits_after way p found v w → w ≡ wrote v (went_out v.tally)
+counts_out way p found v w may told = told_so way p found v w (λ k. Intent.Subtract k 1) may told
+    ∙ ap (λ (b : Bool). wrote v (cond b (went_in v.tally) (cond (not b) (went_out v.tally) v.tally))) (ne_eqb ((found + (2 ^ 64 - 1)) % 2 ^ 64) ((found + 1) % 2 ^ 64) (other_way found))
+
+-- Where no other pass is left, and no wait of its own is there, the count is 0.
+
+none_left : (begun ended ins outs waiting word : ℕ) → begun ≡ ins → ended ≡ outs → ended ≡ begun → ins ≡ outs + waiting → word ≡ waiting % 2 ^ 64 → word ≡ 0
+none_left begun ended ins outs waiting word h1 h2 h3 h4 h5 = omega (arith, h1, h2, h3, h4, h5)
+
+pub none_there : (t : Waits) (way : Coming ℕ) (p : Parties ℕ) (found : ℕ) → MayStep waiters_model (Word.Waiters ∷ []) way 0 (λ w. Intent.Load w) p →
+    WentAlone waiters_model (λ past. AreWaitsIn past t) way p found → t.ended ≡ t.begun → found ≡ 0
+none_there t way p found may went out =
+    let s = went may.call may.place may.hold may.done may.comes in
+    let act : carried_out (Intent.Load may.name) (λ _. found) ≡ carried_out (Intent.Load may.name) (word_in waiters_table s.past) =
+    subst (λ (k : Intent ℕ). carried_out k (λ _. found) ≡ carried_out k (word_in waiters_table s.past)) may.intends s.found_is in
+    let found_is : found ≡ word_in waiters_table s.past Word.Waiters = some_same _ _ (ap value_told act) ∙ sym (ap (word_in waiters_table s.past) may.named) in
+    let law = s.law.law.waiters in
+    none_left t.begun t.ended _ _ _ found s.says.begun s.says.ended out law.left (found_is ∙ law.counts)
+
+-- whenever the rule holds
 pub count_is_inside : CountIsInside
-count_is_inside s r = r.agree.word ∙ ap (λ (n : ℕ). n % 2 ^ 64) (sym (total_inside s.views))
+count_is_inside s r =
+    let played = r.agree.played in
+    let follows = r.agree.follows in
+    let law = played.law.law.waiters in record {
+      run = record { parties = played.parties; past = played.past; run = played.run; law = played.law; each = played.each; follows = follows };
+      word = hold_at (Word.Waiters ∷ []) s.words 0 Word.Waiters _ played.hold refl ∙ law.counts;
+      inside = follows.begun ∙ law.left ∙ ap (λ (n : ℕ). n + length (waiting_after played.past)) (sym follows.ended);
+    }

@@ -1,21 +1,21 @@
 -- Each step of a mutex keeps its rule.
 use Rattle.running_mutex.specs.Names.{Word, Call, Then, HoldKind, Intent, MutexPlace, mutex_table, Parties, Coming, IsStepAt, mutex_model, mutex_lawful, View, sum_of, Updates, Holds, no_holds, both_holds, IsHeld, AreGrantsIn, MutexAgrees, none_played, both_played, core_played, played_add_up, GoesOnCounting}
 use Rattle.running_mutex.proofs.Names.{◌≡◌, ℕ, ◌≤◌, ◌==◌, eqb, Bool, true, false, cond, List, [], ◌∷◌, Option, Some, set, refl, ap, sym, subst, ◌∙◌, arith, length-set, get_or-set_same, by_exchange}
-use Rattle.steps_events.specs.declared.event.Act.{Act}
-use Rattle.steps_events.specs.declared.event.Event.{Event}
-use Rattle.steps_events.specs.Rows.{carried_out}
-use Rattle.steps_events.specs.Past.{PendingCall, call_of}
-use Rattle.steps_events.specs.NextStep.{StepsAs}
-use Rattle.steps_mutex.specs.Law.{MutexStep, IsUnlockStep, acts_of}
-use Rattle.playing.specs.Sums.{grants_by, next_grants}
-use Rattle.playing.proofs.OfARun.{of_a_run}
-use Rattle.playing.proofs.Steps.{next_step}
+use Rattle.model_events.specs.declared.event.Act.{Act}
+use Rattle.model_events.specs.declared.event.Event.{Event}
+use Rattle.model_events.specs.Rows.{carried_out}
+use Rattle.model_events.specs.Past.{PendingCall, call_of}
+use Rattle.model_events.specs.NextStep.{StepsAs}
+use Rattle.model_mutex.specs.Law.{MutexStep, IsUnlockStep, acts_of}
+use Rattle.running_model.specs.Sums.{grants_by, next_grants}
+use Rattle.running_model.proofs.OfARun.{of_a_run}
+use Rattle.running_model.proofs.Steps.{next_step}
 use mathlib.Core.Logic.{dite}
 use native.Mathlib.Decide.{ℕ_discrete}
 use prog.Atomic.{either}
-use Rattle.passes.proofs.Sums.{sum_of_two}
+use Rattle.running_passes.proofs.Sums.{sum_of_two}
 use Rattle.running_mutex.specs.MutexSteps.{granted, released, locked, unlocked, saw_locked, Exchanged, Stored, PlayedMutex, GrantsAreOfARun, OneHolder}
-use Rattle.tallies.specs.MutexTally.{holds_add_up, at_zero, beside_zero}
+use Rattle.running_tallies.specs.MutexTally.{holds_add_up, at_zero, beside_zero}
 
 -- the word is written, and is the number of holds again
 held_again : (words : List ℕ) (n : ℕ) (t u : Holds) → IsHeld words t → n ≡ u.holds → n ≤ 1 → IsHeld (set words 0 n) u

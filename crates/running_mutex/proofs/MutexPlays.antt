@@ -1,10 +1,10 @@
 -- The steps of a mutex are those of its table.
 use Rattle.running_mutex.specs.Names.{MatchBool, Word, Call, Answer, HoldKind, Intent, MutexPlace, mutex_intent, mutex_model, Slot, Parties, all_of, IsNamed, Coming, Beginning, Continuing, ComesBy, IsHolding, Led, HasCalled, MayStep, Went, spun, IsRefused, IsGranted, MayTry, IsToWake}
 use Rattle.running_mutex.proofs.Names.{◌≡◌, ◌≢◌, ℕ, ◌==◌, Bool, true, false, refl, sym, ap, subst, ◌∙◌, List, [], ◌∷◌, Some, None, ne_eqb}
-use Rattle.steps_events.specs.declared.event.Wake.{Wake}
-use Rattle.steps_events.specs.declared.patience.Patience.{Patience}
-use Rattle.playing.specs.Turns.{IsOverAside}
-use Rattle.playing.proofs.Holding.{holding_told, holding_is}
+use Rattle.model_events.specs.declared.event.Wake.{Wake}
+use Rattle.model_events.specs.declared.patience.Patience.{Patience}
+use Rattle.running_model.specs.Turns.{IsOverAside}
+use Rattle.running_model.proofs.Holding.{holding_told, holding_is}
 use Rattle.running_mutex.specs.MutexParties.{HasMutex, Unlocks}
 
 -- how the calls begin

@@ -1,7 +1,7 @@
 -- What the tries of a `lock` come to, one after another.
 use Rattle.running_mutex.specs.Names.{Bor, Shared, WaitAction, Word, View, IsWhole, part_of, sights_of, HasAsked, IsNamed, HasMoved, WasRefused, WasRefusedAt, HasGivenUp, Holds}
 use Rattle.running_mutex.proofs.Names.{◌≡◌, ℕ, ◌+◌, Bool, true, false, MatchBool, [], ◌∷◌, refl, sym, ap, subst, ◌∙◌, arith}
-use Rattle.playing.proofs.Attempts.{missed_once, told_after, asked_after}
+use Rattle.running_model.proofs.Attempts.{missed_once, told_after, asked_after}
 use Rattle.running_mutex.specs.MutexShown.{MutexPass, IsLocked, IsAlone, Enters, HasLocked, HasSeenLocked, HasUnlocked, HasEntered}
 
 pub locks_once : (p q : MutexPass) → HasLocked p q → HasEntered p q

@@ -1,50 +1,61 @@
--- What a pass of a condition variable counts, the rule over all passes, and what a step changes.
-use Rattle.running_mutex.specs.Names.{◌≡◌, ℕ, ◌+◌, ◌%◌, ◌^◌, List, length, slice_index, State, View, IsWhole, total, looked, wrote, IsCounted}
-use mathlib.Core.Option as maybe
-use Rattle.running_mutex.specs.declared.condition_variable.Waits.{Waits}
+-- What a pass of a condition variable's count counts, and what all passes count together: what the acts of the run counted in and out.
+use Rattle.running_mutex.specs.Names.{◌≡◌, ℕ, ◌+◌, ◌%◌, ◌^◌, if◌then◌else◌, List, [], ◌∷◌, length, slice_index, Word, Call, State, Pass, View, sum_of, IsCounted, Played, none_played, both_played, PlaysAndCounts, IsOfARun}
+use Rattle.model_events.specs.declared.event.Act.{Act}
+use Rattle.model_events.specs.declared.event.Event.{Event}
+use Rattle.model_condvar.specs.Waiters.{waiting_after}
+use Rattle.model_waiters.specs.declared.WaitersPlace.{WaitersPlace}
+use Rattle.model_waiters.specs.Law.{is_in, is_out, ins_in, outs_in}
+use Rattle.running_mutex.specs.declared.waits.Waits.{Waits}
+use Rattle.running_mutex.specs.declared.waits.WaitersScript.{WaitersScript}
+use Rattle.running_mutex.specs.CondScript.{waiters_model}
 
 abbrev pub waits : ℕ → ℕ → Waits
-waits begun inside = record { begun = begun; inside = inside }
+waits begun ended = record { begun = begun; ended = ended }
 
 abbrev pub no_waits : Waits
 no_waits = waits 0 0
 
 abbrev pub both_waits : Waits → Waits → Waits
-both_waits t u = waits (t.begun + u.begun) (t.inside + u.inside)
+both_waits t u = waits (t.begun + u.begun) (t.ended + u.ended)
 
--- there is one word, and it is the number of waits inside, modulo 2^64
-pub record IsCountOf (words : List ℕ) (t : Waits) : Type 0 where
-  pub one_word : length words ≡ 1
-  pub word : slice_index words 0 ≡ t.inside % 2 ^ 64
-
-abbrev pub CondAgrees : List ℕ → List (maybe.Option (Unit {0})) → Waits → Type 0
-CondAgrees words homes = IsCountOf words
-
--- whenever the rule holds, the word is the number of waits that all passes together have inside, modulo 2^64
-abbrev pub CountIsInside : Type 0
-CountIsInside = (s : State (Unit {0}) (View Waits)) → IsCounted no_waits both_waits CondAgrees s → slice_index s.words 0 ≡ total (λ u. u.tally.inside) s.views % 2 ^ 64
-
--- a wait begins, and is inside
+-- a wait is counted in, and out
 abbrev pub went_in : Waits → Waits
-went_in t = waits (t.begun + 1) 1
+went_in t = waits (t.begun + 1) t.ended
 
--- it is no more inside
 abbrev pub went_out : Waits → Waits
-went_out t = waits t.begun 0
+went_out t = waits t.begun (t.ended + 1)
 
 -- both
 abbrev pub one_more : Waits → Waits
-one_more t = waits (t.begun + 1) 0
+one_more t = waits (t.begun + 1) (t.ended + 1)
 
--- a load; where no other pass is left, it finds those of this one
-pub record Loaded (v : View Waits) (found : ℕ) (w : View Waits) : Type 0 where
-  pub saw : w ≡ looked v found
-  pub alone : IsWhole v.part → found ≡ v.tally.inside % 2 ^ 64
+-- what an act makes of a tally
+abbrev pub waits_after : Act ℕ → Call ℕ → Waits → Waits
+waits_after act call t = if is_in act then went_in t else (if is_out act then went_out t else t)
 
--- an add of 1 by a pass with no wait inside
-pub record CountedIn (v : View Waits) (w : View Waits) : Type 0 where
-  pub counted : w ≡ wrote v (went_in v.tally)
+-- so many were counted in and out in the run
+pub record AreWaitsIn (past : List (Event ℕ)) (t : Waits) : Type 0 where
+  pub begun : t.begun ≡ ins_in past
+  pub ended : t.ended ≡ outs_in past
 
--- a subtraction of 1 by the pass with a wait inside
-pub record CountedOut (v : View Waits) (w : View Waits) : Type 0 where
-  pub counted : w ≡ wrote v (went_out v.tally)
+-- what a pass of the count is in its model, and counts beside
+abbrev pub PlayedWaits : Type 0
+PlayedWaits = Played WaitersScript WaitersPlace ℕ Waits
+
+abbrev pub WaitsPass : Type 0
+WaitsPass = Pass PlayedWaits
+
+-- the rule of the count holds
+abbrev pub IsRuled : State (Unit {0}) (View PlayedWaits) → Type 0
+IsRuled s = IsCounted (none_played no_waits) (both_played both_waits) (PlaysAndCounts waiters_model (Word.Waiters ∷ []) (λ _ _ _. Unit {0}) AreWaitsIn) s
+
+-- All passes are the parties of a run, and the word is how many of these wait in it, modulo 2^64: all that were counted in, but those that
+-- were counted out.
+pub record CountsThoseInside (s : State (Unit {0}) (View PlayedWaits)) : Type 0 where
+  pub run : IsOfARun waiters_model AreWaitsIn (sum_of (none_played no_waits) (both_played both_waits) s.views)
+  pub word : slice_index s.words 0 ≡ length (waiting_after run.past) % 2 ^ 64
+  pub inside : (sum_of (none_played no_waits) (both_played both_waits) s.views).counts.begun ≡ (sum_of (none_played no_waits) (both_played both_waits) s.views).counts.ended + length (waiting_after run.past)
+
+-- so it is whenever the rule holds
+abbrev pub CountIsInside : Type 0
+CountIsInside = (s : State (Unit {0}) (View PlayedWaits)) → IsRuled s → CountsThoseInside s

@@ -1,12 +1,11 @@
 -- What contracts see of a condition variable and its pass, and what a call changes in a pass.
-use Rattle.running_mutex.specs.Names.{◌≡◌, ℕ, Option, Some, None, Bor, Shared, Once, FnOnceReturnsAt, WaitAction, Part, Pass, IsWhole, HasLooked, IsSamePass, part_of, sights_of, HasSeen, HasDone, MayAnswerAbort, HasAsked, counts_of, parties_of, Parties, HasCalled, Call, Answer, HoldKind, mutex_model, HasMoved, WasRefused, Holds, gave}
-use Rattle.passes.specs.declared.wait.WaitResult.{WaitResult}
-use Rattle.passes.specs.declared.wait.WaitResult.TheVariants.{Success, Interrupted}
-use Rattle.passes.specs.Objects.{IsPassOf}
+use Rattle.running_mutex.specs.Names.{◌≡◌, ◌<◌, ℕ, Bool, MatchBool, Option, Some, None, Bor, Shared, Once, FnOnceReturnsAt, WaitAction, Part, IsWhole, HasLooked, IsSamePass, part_of, sights_of, MayAnswerAbort, HasAsked, counts_of, parties_of, Parties, HasCalled, Call, Answer, HoldKind, mutex_model, HasMoved, WasRefused, Holds, gave}
+use Rattle.running_passes.specs.declared.wait.WaitResult.{WaitResult}
+use Rattle.running_passes.specs.declared.wait.WaitResult.TheVariants.{Success, Interrupted}
+use Rattle.running_model.specs.Stages.{IsPassOf}
 use Rattle.running_mutex.specs.MutexParties.{Unlocks}
-use Rattle.playing.specs.Counts as counts
-use Rattle.running_semaphore.specs.SemaphoreShown.{SemPass, IsSemPass, IsEmpty}
-use Rattle.running_mutex.specs.declared.condition_variable.Waits.{Waits}
+use Rattle.running_model.specs.Counts.{HasSeen, HasDone}
+use Rattle.running_semaphore.specs.SemaphoreShown.{SemPass, IsSemPass, IsEmpty, HasTaken, worth_of, HasPlayed, HasPlayedPost}
 use Rattle.running_mutex.specs.declared.condition_variable.CondPass.{CondPass}
 use Rattle.running_mutex.specs.declared.condition_variable.ConditionVariable.{ConditionVariable}
 use Rattle.running_mutex.specs.declared.condition_variable.CountedWait.{CountedWait}
@@ -15,10 +14,11 @@ use Rattle.running_mutex.specs.declared.condition_variable.Woken.{Woken}
 use Rattle.running_mutex.specs.declared.condition_variable.Woken.TheVariants.{Signalled, Unsignalled}
 use Rattle.running_mutex.specs.MutexSteps.{granted, released}
 use Rattle.running_mutex.specs.MutexShown.{MutexPass, IsLocked, holds_of}
-use Rattle.running_mutex.specs.CondRule.{one_more}
+use Rattle.running_mutex.specs.CondRule.{WaitsPass, one_more}
+use Rattle.running_mutex.specs.CondParties.{Plays}
 
 -- the two passes inside: that of the count, and that of the permits
-abbrev pub waits_in : CondPass → Pass Waits
+abbrev pub waits_in : CondPass → WaitsPass
 waits_in p = p.waits
 
 abbrev pub permits_in : CondPass → SemPass
@@ -30,12 +30,19 @@ IsCondPass c p = IsPassOf c.number_of_waiters (waits_in p) × IsSemPass c.semaph
 -- so many were seen to wait, in one look; so many permits were given; and nothing else changed
 pub record HasGiven (permits waiting : ℕ) (p q : CondPass) : Type 0 where
   pub saw : HasSeen waiting (waits_in p) (waits_in q)
-  pub gave : counts.HasDone (gave permits) (permits_in p) (permits_in q)
+  pub gave : HasDone (gave permits) (permits_in p) (permits_in q)
 
--- it was seen once how many wait, as many permits were given as are for them, and nothing else changed
+-- of the model of the count the pass has made this one call, as a party that is new, which was answered so
+abbrev pub HasPlayedCount : Call ℕ → Answer ℕ → CondPass → CondPass → Type 0
+HasPlayedCount call answer p q = Plays call answer (parties_of (waits_in p)) (parties_of (waits_in q))
+
+-- It was seen once how many wait, which is what the count answered; as many permits were given as are for them, by one `Post`; and nothing else
+-- changed.
 pub record HasNotified (for : ℕ → ℕ) (p q : CondPass) : Type 0 where
   pub waiting : ℕ
+  pub asked : HasPlayedCount Call.Value (Answer.Number waiting) p q
   pub given : HasGiven (for waiting) waiting p q
+  pub posted : HasPlayedPost 0 (for waiting) (permits_in p) (permits_in q)
 
 -- It may have notified and waited. A helper, a loop and a closure carry this one fact.
 pub record HasStayed (p q : CondPass) : Type 0 where
@@ -68,16 +75,26 @@ module _ {H : Type 0} where
   woken_of (CondResult.Interrupted (Some h)) = Success (Unsignalled h)
   woken_of (CondResult.Interrupted None) = Interrupted
 
--- one wait more was counted in and out again, and nothing else changed
-abbrev pub HasWaited : CondPass → CondPass → Type 0
-HasWaited p q = HasDone one_more (waits_in p) (waits_in q)
+-- one wait more was counted in and out again, by one `Wait` of the count, and nothing else changed
+pub record HasWaited (p q : CondPass) : Type 0 where
+  pub counted : HasDone one_more (waits_in p) (waits_in q)
+  pub played : HasPlayedCount Call.Wait Answer.Done p q
 
 -- No permit was taken: none was seen in 10002 looks or more, and the wait closure may answer Abort, told 0. Where no other pass is left,
 -- the looks are counted by the closure's answers.
-pub record HasNotTaken {F W : Type 0} (g : Shared F (Bor W × (Bor ℕ × Unit {0})) WaitAction) (wait : F) (p q : CondPass) : Type 0 where
-  pub refused : WasRefused IsEmpty 10002 (permits_in p) (permits_in q)
+pub record TakesNone {F W : Type 0} (g : Shared F (Bor W × (Bor ℕ × Unit {0})) WaitAction) (wait : F) (p q : SemPass) : Type 0 where
+  pub refused : WasRefused IsEmpty 10002 p q
   pub aborted : MayAnswerAbort g wait IsEmpty
-  pub asked : IsWhole (part_of (permits_in p)) → HasAsked g wait IsEmpty 10001 (permits_in p) (permits_in q)
+  pub asked : IsWhole (part_of p) → HasAsked g wait IsEmpty 10001 p q
+
+abbrev pub HasNotTaken : {F W : Type 0} → Shared F (Bor W × (Bor ℕ × Unit {0})) WaitAction → F → CondPass → CondPass → Type 0
+HasNotTaken g wait p q = TakesNone g wait (permits_in p) (permits_in q)
+
+-- one `Wait` of a semaphore of this initial value took a permit, or none
+pub record HasSlept {F W : Type 0} (g : Shared F (Bor W × (Bor ℕ × Unit {0})) WaitAction) (wait : F) (initial : ℕ) (took : Bool) (p q : SemPass) : Type 0 where
+  pub taken : MatchBool took (HasTaken p q) (TakesNone g wait p q)
+  pub played : MatchBool took (HasPlayed initial Call.Wait Answer.Success p q) (HasPlayed initial Call.Wait Answer.Interrupted p q)
+  pub worth : IsWhole (part_of p) → MatchBool took (0 < worth_of p) (worth_of p ≡ 0)
 
 -- the hold, which was on, went off, and is on again by one more grant
 pub record Regains (part : Part) (t u : Holds) (last : ℕ) : Type 0 where

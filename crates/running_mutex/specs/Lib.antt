@@ -2,6 +2,9 @@ pub mod Names
 pub mod MutexParties
 pub mod MutexSteps
 pub mod MutexShown
+pub mod CondScript
 pub mod CondRule
 pub mod CondTally
+pub mod CondParties
 pub mod CondShown
+pub mod Often

@@ -1,6 +1,6 @@
 -- What contracts see of a mutex, its pass and its hold, and what a call changes in a pass.
 use Rattle.running_mutex.specs.Names.{◌≡◌, ◌≢◌, ℕ, ◌+◌, ◌≤◌, Bool, Option, Some, MatchBool, GName, Call, Answer, HoldKind, MutexPlace, mutex_model, Part, Pass, IsWhole, IsSamePass, part_of, sights_of, Played, Parties, Coming, HasCalled, Went, parties_of, counts_of, counted, HasMoved, Holds, MutexScript}
-use Rattle.playing.specs.Stages.{IsPassOf}
+use Rattle.running_model.specs.Stages.{IsPassOf}
 use Rattle.running_mutex.specs.declared.MutexHold.{MutexHold}
 use Rattle.running_mutex.specs.declared.Mutex.{Mutex}
 use Rattle.running_mutex.specs.MutexParties.{Unlocks}

@@ -1,34 +1,34 @@
 -- What this crate reads of others.
 pub use Rattle.atomic_table.specs.Table.{State}
-pub use Rattle.passes.specs.Answers.{MayAnswerAbort, HasAsked}
-pub use Rattle.passes.specs.Parts.{IsWhole, total}
-pub use Rattle.passes.specs.Passes.{IsSamePass, part_of, sights_of, HasSeen, HasDone, tally_of}
-pub use Rattle.passes.specs.Sights.{HasLooked, stale}
-pub use Rattle.passes.specs.Views.{looked, wrote, IsCounted, missed, sum_of, Updates}
-pub use Rattle.passes.specs.declared.part.Part.{Part}
-pub use Rattle.passes.specs.declared.pass.Pass.{Pass}
-pub use Rattle.passes.specs.declared.view.View.{View}
-pub use Rattle.playing.specs.Counts.{HasMoved, WasRefused, HasGivenUp, WasRefusedAt}
-pub use Rattle.playing.specs.Passes.{counts_of, parties_of, counted, none_played, both_played, PlaysAndCounts, IsOfARun, core_played, played_add_up, GoesOnCounting}
-pub use Rattle.playing.specs.Plays.{HasCalled, IsAt, IsHolding, Coming, Went, Beginning, MayStep, Continuing, IsStepAt, ComesBy, Led}
-pub use Rattle.playing.specs.Slots.{Parties, Slot, all_of}
-pub use Rattle.playing.specs.Tries.{spun, IsRefused, IsGranted, MayTry, IsToWake}
-pub use Rattle.playing.specs.Words.{IsNamed}
-pub use Rattle.playing.specs.declared.played.Played.{Played}
+pub use Rattle.running_passes.specs.Answers.{MayAnswerAbort, HasAsked}
+pub use Rattle.running_passes.specs.Parts.{IsWhole}
+pub use Rattle.running_passes.specs.Passes.{IsSamePass, part_of, sights_of}
+pub use Rattle.running_passes.specs.Sights.{HasLooked, stale}
+pub use Rattle.running_passes.specs.Views.{looked, wrote, IsCounted, missed, sum_of, Updates}
+pub use Rattle.running_passes.specs.declared.part.Part.{Part}
+pub use Rattle.running_passes.specs.declared.pass.Pass.{Pass}
+pub use Rattle.running_passes.specs.declared.view.View.{View}
+pub use Rattle.running_model.specs.Counts.{HasMoved, WasRefused, HasGivenUp, WasRefusedAt}
+pub use Rattle.running_model.specs.Passes.{counts_of, parties_of, counted, none_played, both_played, PlaysAndCounts, IsOfARun, core_played, played_add_up, GoesOnCounting}
+pub use Rattle.running_model.specs.Plays.{HasCalled, IsAt, IsHolding, Coming, Went, Beginning, MayStep, Continuing, IsStepAt, ComesBy, Led}
+pub use Rattle.running_model.specs.Slots.{Parties, Slot, all_of}
+pub use Rattle.running_model.specs.Tries.{spun, IsRefused, IsGranted, MayTry, IsToWake}
+pub use Rattle.running_model.specs.Words.{IsNamed}
+pub use Rattle.running_model.specs.declared.played.Played.{Played}
 pub use Rattle.running_semaphore.specs.SemaphoreSteps.{gave}
 pub use Rattle.std.specs.Borrow.{Bor, GName}
 pub use Rattle.std.specs.Fn.{Shared, Once, FnOnceReturnsAt}
-pub use Rattle.std.specs.Prelude.{◌≡◌, ℕ, ◌+◌, ◌%◌, ◌^◌, List, length, slice_index, Option, Some, None, true, ◌≢◌, ◌≤◌, Bool, MatchBool, [], ◌∷◌, min}
-pub use Rattle.steps_events.specs.declared.WaitAction.{WaitAction}
-pub use Rattle.steps_events.specs.declared.event.Answer.{Answer}
-pub use Rattle.steps_events.specs.declared.event.Call.{Call}
-pub use Rattle.steps_events.specs.declared.event.Then.{Then}
-pub use Rattle.steps_events.specs.declared.event.Word.{Word}
-pub use Rattle.steps_events.specs.declared.hold.HoldKind.{HoldKind}
-pub use Rattle.steps_events.specs.declared.row.Intent.{Intent}
-pub use Rattle.steps_mutex.specs.Table.{mutex_table, mutex_intent}
-pub use Rattle.steps_mutex.specs.declared.MutexPlace.{MutexPlace}
-pub use Rattle.tallies.specs.MutexRule.{MutexAgrees, AreGrantsIn, both_holds, holds, no_holds, IsHeld}
-pub use Rattle.tallies.specs.MutexScript.{mutex_model, mutex_lawful}
-pub use Rattle.tallies.specs.declared.mutex.Holds.{Holds}
-pub use Rattle.tallies.specs.declared.mutex.MutexScript.{MutexScript}
+pub use Rattle.std.specs.Prelude.{◌≡◌, ℕ, ◌+◌, ◌%◌, ◌^◌, ◌<◌, if◌then◌else◌, List, length, slice_index, Option, Some, None, true, ◌≢◌, ◌≤◌, Bool, MatchBool, [], ◌∷◌, min}
+pub use Rattle.model_events.specs.declared.WaitAction.{WaitAction}
+pub use Rattle.model_events.specs.declared.event.Answer.{Answer}
+pub use Rattle.model_events.specs.declared.event.Call.{Call}
+pub use Rattle.model_events.specs.declared.event.Then.{Then}
+pub use Rattle.model_events.specs.declared.event.Word.{Word}
+pub use Rattle.model_events.specs.declared.hold.HoldKind.{HoldKind}
+pub use Rattle.model_events.specs.declared.row.Intent.{Intent}
+pub use Rattle.model_mutex.specs.Table.{mutex_table, mutex_intent}
+pub use Rattle.model_mutex.specs.declared.MutexPlace.{MutexPlace}
+pub use Rattle.running_tallies.specs.MutexRule.{MutexAgrees, AreGrantsIn, both_holds, holds, no_holds, IsHeld}
+pub use Rattle.running_tallies.specs.MutexScript.{mutex_model, mutex_lawful}
+pub use Rattle.running_tallies.specs.declared.mutex.Holds.{Holds}
+pub use Rattle.running_tallies.specs.declared.mutex.MutexScript.{MutexScript}

@@ -2,82 +2,60 @@
 //!
 //! It does what `strategy::condition_variable` of the Rust crate does, but that a wait that gives up locks the mutex again too. It
 //! stands on the public calls of `Mutex` and `Semaphore`, and in this crate, since a wait takes the pass out of the hold that it was
-//! handed, and nobody else is to reach it there. No closure sees the count of those that wait; so its tally stands here.
+//! handed, and nobody else is to reach it there. Its count of those that wait plays a model of its own.
 
 ghost use Rattle.std.specs.Prelude.{◌≡◌, true, false, MatchBool, IfOk, Some, None};
-ghost use Rattle.steps_events.specs.declared.event.Call.TheVariants as calls;
-ghost use Rattle.steps_events.specs.declared.event.Answer.TheVariants as answers;
-ghost use Rattle.steps_events.specs.declared.hold.HoldKind.TheVariants as kinds;
-ghost use Rattle.passes.specs.Answers.{MayAnswerAbort};
-ghost use Rattle.playing.specs.Counts.{HasGivenUp};
-ghost use Rattle.playing.specs.Passes.{parties_of};
-ghost use Rattle.passes.specs.Objects.{count_of};
-ghost use Rattle.passes.specs.Passes.{tally_of};
+ghost use Rattle.model_events.specs.declared.event.Call.TheVariants as calls;
+ghost use Rattle.model_events.specs.declared.event.Answer.TheVariants as answers;
+ghost use Rattle.model_events.specs.declared.hold.HoldKind.TheVariants as kinds;
+ghost use Rattle.running_passes.specs.Answers.{MayAnswerAbort};
+ghost use Rattle.running_model.specs.Counts.{HasGivenUp};
+ghost use Rattle.running_model.specs.Passes.{parties_of, counts_of};
+ghost use Rattle.running_model.specs.Stages.{count_of};
+ghost use Rattle.running_semaphore.specs.SemaphoreShown.{initial_of};
 ghost use Rattle.running_mutex.specs.MutexShown.{IsMutexPass, IsAlone, IsLocked, HasEntered, HasPlayed};
 ghost use Rattle.running_mutex.specs.MutexParties.{HasMutex};
+ghost use Rattle.running_mutex.specs.CondParties.{HasWaitInside};
 ghost use Rattle.running_mutex.specs.CondRule.{CountIsInside};
 
+pub use crate::waits::Waits;
+use crate::waits::{PlayedWaits, WaitersScript};
 use crate::{Mutex, MutexHold, MutexPass};
-use passes::{Deed, Pass, Rule, Tally, WaitResult, Words};
+use model_condvar::permits_for;
+use model_events::WaitAction;
+use model_events::event::Wake;
+use model_waiters::WaitersPlace;
+use running_model::Stage;
+use running_model::turn::{AfterAside, Called, Goes, Turn, begin_new};
+use running_passes::{Pass, WaitResult};
 use running_semaphore::{SemPass, Semaphore};
+use running_tallies::WaitWord;
 use std::alloc::{AllocError, Allocator, Global};
 use std::sync::Wait;
-use steps_condvar::permits_for;
-use steps_events::WaitAction;
-use steps_events::event::Wake;
-use tallies::WaitWord;
-
-/// What a pass of a condition variable counts. No value of it is made.
-pub struct Waits {
-    /// How many waits its owner began.
-    pub begun: u64,
-    /// How many of them are counted as waiting: 0 or 1, and 0 between its calls.
-    pub inside: u64,
-}
-
-impl Tally for Waits {
-    ghost use Rattle.running_mutex.specs.CondRule.{no_waits, both_waits};
-    ghost use Rattle.running_mutex.specs.CondTally.{waits_add_up};
-
-    ghost none = { no_waits };
-
-    ghost add = { both_waits };
-
-    ghost core = { λ _. no_waits };
-
-    ghost adds_up = { waits_add_up };
-}
-
-/// The word is the number of waits that are counted as waiting, modulo 2^64.
-impl Rule<(), ()> for Waits {
-    ghost use Rattle.running_mutex.specs.CondRule.{no_waits, CondAgrees};
-
-    ghost first = { λ _. no_waits };
-
-    ghost agrees = { λ _. CondAgrees };
-}
 
 /// A condition variable.
 #[derive(Drop)]
 pub struct ConditionVariable<A: Allocator = Global> {
-    number_of_waiters: Words<(), Waits, A>,
+    number_of_waiters: Stage<(), WaitersScript, WaitersPlace, u64, Waits, A>,
     semaphore: Semaphore<A>,
     ghost one_word: { count_of number_of_waiters ≡ 1 },
+    ghost no_permit: { initial_of semaphore ≡ 0 },
 }
 
 /// The right to call a condition variable, and what its owner did and saw there. No wait of its owner is under way.
 #[derive(Drop)]
 pub struct CondPass {
-    waits: Pass<Waits>,
+    waits: Pass<PlayedWaits>,
     permits: SemPass,
-    ghost outside: { (tally_of waits).inside ≡ 0 },
+    ghost outside: { (counts_of waits).ended ≡ (counts_of waits).begun },
 }
 
-/// That a wait is counted as waiting. Nobody else makes one than `wait_around`, which lends it to the closure that lets the lock go.
+/// That a wait is counted as waiting, and does not sleep yet. Nobody else makes one than `wait_around`, which lends it to the closure that
+/// lets the lock go.
 #[derive(Drop)]
 pub struct CountedWait<'p> {
-    waits: &'p Pass<Waits>,
-    ghost inside: { (tally_of waits.now).inside ≡ 1 },
+    turn: &'p Turn<'p, Pass<PlayedWaits>, Goes>,
+    ghost inside: { HasWaitInside (parties_of turn.now.pass.now) },
 }
 
 /// What a wait came to that has the mutex again.
@@ -114,41 +92,32 @@ impl<H> From<WaitResult<Woken<H>>> for CondResult<H> {
     }
 }
 
-/// A load of the count.
-struct Look;
+/// A `Value`.
+struct ValueCall;
 
-impl Deed<(), Waits> for Look {
-    ghost use Rattle.running_mutex.specs.CondRule.{Loaded};
+impl Called<u64> for ValueCall {
+    ghost use Rattle.model_events.specs.declared.event.Call.TheVariants as calls;
 
-    ghost tells = { λ _ _ _. Loaded };
+    ghost call = { calls.Value };
 }
 
-/// An add of 1 to the count.
-struct CountIn;
+/// A `Wait`.
+struct WaitCall;
 
-impl Deed<(), Waits> for CountIn {
-    ghost use Rattle.running_mutex.specs.CondRule.{CountedIn};
+impl Called<u64> for WaitCall {
+    ghost use Rattle.model_events.specs.declared.event.Call.TheVariants as calls;
 
-    ghost tells = { λ _ _ _ before _. CountedIn before };
-}
-
-/// A subtraction of 1 from the count.
-struct CountOut;
-
-impl Deed<(), Waits> for CountOut {
-    ghost use Rattle.running_mutex.specs.CondRule.{CountedOut};
-
-    ghost tells = { λ _ _ _ before _. CountedOut before };
+    ghost call = { calls.Wait };
 }
 
 impl CondPass {
     ghost use Rattle.std.specs.Prelude.{is_ok};
-    ghost use Rattle.passes.specs.declared.part.Part.{Part};
-    ghost use Rattle.passes.specs.Parts.{half, IsAgain, IsSamePart, AddUp};
-    ghost use Rattle.passes.specs.Passes.{view, part_of};
-    ghost use Rattle.passes.specs.Views.{left_view, right_view, joined_view};
-    ghost use Rattle.playing.specs.Passes.{core_played, both_played};
-    ghost use Rattle.tallies.specs.SemaphoreRule.{no_permits, both_permits};
+    ghost use Rattle.running_passes.specs.declared.part.Part.{Part};
+    ghost use Rattle.running_passes.specs.Parts.{half, IsAgain, IsSamePart, AddUp};
+    ghost use Rattle.running_passes.specs.Passes.{view, part_of};
+    ghost use Rattle.running_passes.specs.Views.{left_view, right_view, joined_view};
+    ghost use Rattle.running_model.specs.Passes.{core_played, both_played};
+    ghost use Rattle.running_tallies.specs.SemaphoreRule.{no_permits, both_permits};
     ghost use Rattle.running_mutex.specs.CondRule.{no_waits, both_waits};
     ghost use Rattle.running_mutex.specs.CondShown.{IsCondPass, waits_in, permits_in};
 
@@ -162,7 +131,7 @@ impl CondPass {
         ensures never_refused { is_ok result ≡ true }
         ensures own { IfOk result (λ parts. IsCondPass of.now parts.0 × IsCondPass of.now parts.1) }
         ensures first { IfOk result (λ parts. (view (waits_in parts.0) ≡ left_view (view (waits_in self))) × (view (permits_in parts.0) ≡ left_view (view (permits_in self)))) }
-        ensures second { IfOk result (λ parts. (view (waits_in parts.1) ≡ right_view (λ _. no_waits) (view (waits_in self))) × (view (permits_in parts.1) ≡ right_view (core_played (λ _. no_permits)) (view (permits_in self)))) }
+        ensures second { IfOk result (λ parts. (view (waits_in parts.1) ≡ right_view (core_played (λ _. no_waits)) (view (waits_in self))) × (view (permits_in parts.1) ≡ right_view (core_played (λ _. no_permits)) (view (permits_in self)))) }
         ensures weights { IfOk result (λ parts. AddUp (part_of (waits_in self)) (part_of (waits_in parts.0)) (part_of (waits_in parts.1)) × AddUp (part_of (permits_in self)) (part_of (permits_in parts.0)) (part_of (permits_in parts.1))) }
     {
         let CondPass { waits, permits } = self;
@@ -191,7 +160,7 @@ impl CondPass {
         requires own { IsCondPass of.now a × IsCondPass of.now b }
         ensures never_refused { is_ok result ≡ true }
         ensures own { IfOk result (IsCondPass of.now) }
-        ensures views { IfOk result (λ both. (view (waits_in both) ≡ joined_view both_waits (view (waits_in a)) (view (waits_in b))) × (view (permits_in both) ≡ joined_view (both_played both_permits) (view (permits_in a)) (view (permits_in b)))) }
+        ensures views { IfOk result (λ both. (view (waits_in both) ≡ joined_view (both_played both_waits) (view (waits_in a)) (view (waits_in b))) × (view (permits_in both) ≡ joined_view (both_played both_permits) (view (permits_in a)) (view (permits_in b)))) }
         ensures weights { IfOk result (λ both. AddUp (part_of (waits_in both)) (part_of (waits_in a)) (part_of (waits_in b)) × AddUp (part_of (permits_in both)) (part_of (permits_in a)) (part_of (permits_in b))) }
         ensures again { (p : Part) → IsSamePart (part_of (waits_in a)) (half p) → IsSamePart (part_of (waits_in b)) (half p) → IfOk result (λ both. IsAgain p (part_of (waits_in both))) }
         ensures permits_again { (p : Part) → IsSamePart (part_of (permits_in a)) (half p) → IsSamePart (part_of (permits_in b)) (half p) → IfOk result (λ both. IsAgain p (part_of (permits_in both))) }
@@ -213,34 +182,37 @@ impl CondPass {
 
 impl<A: Allocator> ConditionVariable<A> {
     ghost use Rattle.std.specs.Borrow.{sem, u64};
-    ghost use Rattle.std.specs.Prelude.{◌<◌, ◌⊎◌, min};
-    ghost use Rattle.passes.specs.Answers.{IfSuccess, IfInterrupted, IsSuccess, RestsIfInterrupted, HasWoken};
-    ghost use Rattle.passes.specs.contracts.pass.Pass.{the_row};
-    ghost use Rattle.tallies.specs.contracts.mutex.Holds as holds_row;
-    ghost use Rattle.tallies.specs.contracts.mutex.MutexScript as script_row;
-    ghost use Rattle.steps_mutex.specs.contracts.MutexPlace as place_row;
-    ghost use Rattle.playing.specs.contracts.played.Played as played_row;
-    ghost use Rattle.passes.specs.Parts.{IsWhole};
-    ghost use Rattle.passes.specs.Objects.{IsPassOf};
-    ghost use Rattle.passes.specs.Passes.{view, part_of, IsSamePass, HasDone};
-    ghost use Rattle.passes.specs.Views.{first_view};
-    ghost use Rattle.playing.specs.Slots.{no_parties};
-    ghost use Rattle.playing.specs.Passes.{played};
-    ghost use Rattle.tallies.specs.SemaphoreRule.{first_permits};
-    ghost use Rattle.running_mutex.specs.CondRule.{no_waits, Loaded, went_in, went_out};
-    ghost use Rattle.running_semaphore.specs.SemaphoreShown.{worth_of, HasTaken, initial_of, HasPlayed as HasPlayedPermit};
+    ghost use Rattle.std.specs.Prelude.{ℕ, List, ◌<◌, ◌⊎◌, min};
+    ghost use Rattle.running_passes.specs.Answers.{IfSuccess, IfInterrupted, IsSuccess, RestsIfInterrupted, HasWoken};
+    ghost use Rattle.running_passes.specs.contracts.pass.Pass.{the_row};
+    ghost use Rattle.running_tallies.specs.contracts.mutex.Holds as holds_row;
+    ghost use Rattle.running_tallies.specs.contracts.mutex.MutexScript as script_row;
+    ghost use Rattle.model_mutex.specs.contracts.MutexPlace as place_row;
+    ghost use Rattle.running_model.specs.contracts.played.Played as played_row;
+    ghost use Rattle.running_passes.specs.Parts.{IsWhole};
+    ghost use Rattle.running_model.specs.Stages.{IsPassOf};
+    ghost use Rattle.running_model.specs.Counts.{HasSeen, HasDone};
+    ghost use Rattle.running_passes.specs.Passes.{view, part_of};
+    ghost use Rattle.running_passes.specs.Views.{first_view};
+    ghost use Rattle.running_model.specs.Slots.{no_parties};
+    ghost use Rattle.running_model.specs.Passes.{played};
+    ghost use Rattle.running_tallies.specs.SemaphoreRule.{first_permits};
+    ghost use Rattle.running_model.specs.Slots.{Slot, all_of};
+    ghost use Rattle.running_mutex.specs.CondRule.{no_waits, went_in, went_out, one_more};
+    ghost use Rattle.running_mutex.specs.CondParties.{IsInside, IsOut, Plays};
+    ghost use Rattle.running_semaphore.specs.SemaphoreShown.{IsSemPass, worth_of, HasTaken, HasPlayed as HasPlayedPermit};
     ghost use Rattle.running_mutex.specs.MutexShown.{HasPlayedUnlock};
     ghost use Rattle.running_mutex.specs.MutexShown.{holds_of, pass_of, borrow_of, HasUnlocked};
-    ghost use Rattle.running_mutex.specs.CondShown.{IsCondPass, waits_in, permits_in, HasGiven, HasNotified, held_by, woken_of, IfSignalled, IfUnsignalled, HasWaited, HasNotTaken, HasRegained, HasLeft, LeavesCounted, HasPlayedAgain};
+    ghost use Rattle.running_mutex.specs.CondShown.{IsCondPass, waits_in, permits_in, HasGiven, HasNotified, held_by, woken_of, IfSignalled, IfUnsignalled, HasWaited, HasNotTaken, HasSlept, HasRegained, HasLeft, LeavesCounted, HasPlayedAgain};
 
     /// A condition variable at which nobody waits, and the pass that is whole. `Err` where there was no memory; then nothing was made.
     pub fn new(alloc: A) -> Result<(ConditionVariable<A>, CondPass), AllocError>
     where
         A: Copy,
         ensures own { IfOk result (λ made. IsCondPass made.0 made.1) }
-        ensures first { IfOk result (λ made. (view (waits_in made.1) ≡ first_view no_waits) × (view (permits_in made.1) ≡ first_view (played no_parties (first_permits 0)))) }
+        ensures first { IfOk result (λ made. (view (waits_in made.1) ≡ first_view (played no_parties no_waits)) × (view (permits_in made.1) ≡ first_view (played no_parties (first_permits 0)))) }
     {
-        let (number_of_waiters, waits) = Words::new(alloc, &[0], &())?;
+        let (number_of_waiters, waits) = Stage::new(alloc, &[0], &())?;
         let (semaphore, permits) = Semaphore::new(alloc, 0)?;
         Ok((
             ConditionVariable {
@@ -318,7 +290,15 @@ impl<A: Allocator> ConditionVariable<A> {
         ensures woke { HasWoken K.Fn mtx_wake_one }
     {
         let MutexHold { pass: mtx_pass } = hold;
-        let signalled = this.sleep(rt, pass, mtx, mtx_pass, mtx_wake_one, wait);
+        let signalled = this.unlock_and_sleep(
+            rt,
+            &mut pass.waits,
+            &mut pass.permits,
+            mtx,
+            mtx_pass,
+            mtx_wake_one,
+            wait,
+        );
         if !lock_again(mtx_pass, mtx, rt, mtx_wait) {
             return WaitResult::Interrupted;
         }
@@ -392,81 +372,169 @@ impl<A: Allocator> ConditionVariable<A> {
         ensures took { IfSuccess result.1 (λ _. HasPlayedPermit (initial_of self.now.semaphore) calls.Wait answers.Success (permits_in cond_pass.old) (permits_in cond_pass.new)) }
         ensures took_none { IfInterrupted result.1 (HasPlayedPermit (initial_of self.now.semaphore) calls.Wait answers.Interrupted (permits_in cond_pass.old) (permits_in cond_pass.new)) }
     {
-        self.count_in(&mut cond_pass.waits);
-        let left = leave(&CountedWait {
-            waits: &cond_pass.waits,
-        });
-        let slept = self.semaphore.wait(rt, &mut cond_pass.permits, wait);
-        self.count_out(&mut cond_pass.waits);
-        match slept {
-            WaitResult::Success(()) => (left, WaitResult::Success(())),
-            WaitResult::Interrupted => (left, WaitResult::Interrupted),
+        let (left, signalled) = self.leave_and_sleep(
+            rt,
+            &mut cond_pass.waits,
+            &mut cond_pass.permits,
+            leave,
+            wait,
+        );
+        if signalled {
+            (left, WaitResult::Success(()))
+        } else {
+            (left, WaitResult::Interrupted)
         }
     }
 
-    /// What `wait_held` does until it locks the mutex again, and whether a permit was taken.
-    fn sleep<B: Allocator, R: Wait, K: Fn(&WaitWord), W: Fn(&WaitWord, &u64) -> WaitAction>(
+    /// What `wait_around` does, and whether a permit was taken.
+    #[inline(always)]
+    fn leave_and_sleep<
+        R: Wait,
+        Y,
+        F: FnOnce(&CountedWait<'_>) -> Y,
+        W: Fn(&WaitWord, &u64) -> WaitAction,
+    >(
         &self,
         rt: &R,
-        pass: &mut CondPass,
+        waits: &mut Pass<PlayedWaits>,
+        permits: &mut SemPass,
+        leave: F,
+        wait: W,
+    ) -> (Y, bool)
+        requires own { IsPassOf self.now.number_of_waiters waits.old × IsSemPass self.now.semaphore permits.old }
+        requires may { F.IsAlwaysCallable leave × W.IsAlwaysCallable wait }
+        ensures left { LeavesCounted F.FnOnce leave result.0 }
+        ensures counted { HasDone one_more waits.old waits.new }
+        ensures played { Plays calls.Wait answers.Done (parties_of waits.old) (parties_of waits.new) }
+        ensures slept { HasSlept W.Fn wait (initial_of self.now.semaphore) result.1 permits.old permits.new }
+    {
+        let counted = self.count_in(waits);
+        let left = leave(&CountedWait { turn: &counted });
+        let (signalled, _waits) = self.sleep(rt, counted, permits, wait);
+        (left, signalled)
+    }
+
+    /// What `wait_held` does until it locks the mutex again, and whether a permit was taken.
+    fn unlock_and_sleep<
+        B: Allocator,
+        R: Wait,
+        K: Fn(&WaitWord),
+        W: Fn(&WaitWord, &u64) -> WaitAction,
+    >(
+        &self,
+        rt: &R,
+        waits: &mut Pass<PlayedWaits>,
+        permits: &mut SemPass,
         mtx: &Mutex<B>,
         mtx_pass: &mut MutexPass,
         mtx_wake_one: K,
         wait: W,
     ) -> bool
-        requires own { IsCondPass self.now pass.old × IsMutexPass mtx.now mtx_pass.old }
+        requires own { IsPassOf self.now.number_of_waiters waits.old × IsSemPass self.now.semaphore permits.old × IsMutexPass mtx.now mtx_pass.old }
         requires on { holds_of mtx_pass.old ≡ 1 }
         requires has { HasMutex (parties_of mtx_pass.old) }
         requires may { K.IsAlwaysCallable mtx_wake_one × W.IsAlwaysCallable wait }
         ensures unlocked { HasUnlocked mtx_pass.old mtx_pass.new }
-        ensures counted { HasWaited pass.old pass.new }
-        ensures slept { MatchBool result (HasTaken (permits_in pass.old) (permits_in pass.new)) (HasNotTaken W.Fn wait pass.old pass.new) }
-        ensures played_permit { MatchBool result (HasPlayedPermit (initial_of self.now.semaphore) calls.Wait answers.Success (permits_in pass.old) (permits_in pass.new)) (HasPlayedPermit (initial_of self.now.semaphore) calls.Wait answers.Interrupted (permits_in pass.old) (permits_in pass.new)) }
         ensures played_unlock { HasPlayedUnlock mtx_pass.old mtx_pass.new }
-        ensures some { IsWhole (part_of (permits_in pass.old)) → MatchBool result (0 < worth_of (permits_in pass.old)) (worth_of (permits_in pass.old) ≡ 0) }
+        ensures counted { HasDone one_more waits.old waits.new }
+        ensures played { Plays calls.Wait answers.Done (parties_of waits.old) (parties_of waits.new) }
+        ensures slept { HasSlept W.Fn wait (initial_of self.now.semaphore) result permits.old permits.new }
         ensures woke { HasWoken K.Fn mtx_wake_one }
     {
-        self.count_in(&mut pass.waits);
+        let inside = self.count_in(waits);
         mtx.unlock(MutexHold { pass: mtx_pass }, mtx_wake_one);
-        let slept = self.semaphore.wait(rt, &mut pass.permits, wait);
-        self.count_out(&mut pass.waits);
-        match slept {
-            WaitResult::Success(()) => true,
-            WaitResult::Interrupted => false,
-        }
+        let (signalled, _outside) = self.sleep(rt, inside, permits, wait);
+        signalled
     }
 
     /// How many are counted as waiting.
-    #[tactic(auto, using(crate::proofs::CondKeeps::loads))]
     #[inline(always)]
-    fn waiting(&self, pass: &mut Pass<Waits>) -> u64
-        requires own { IsPassOf self.now.number_of_waiters pass.old }
-        ensures same { IsSamePass pass.old pass.new }
-        ensures told { Loaded (view pass.old) result (view pass.new) }
+    fn waiting(&self, waits: &mut Pass<PlayedWaits>) -> u64
+        requires own { IsPassOf self.now.number_of_waiters waits.old }
+        ensures saw { HasSeen result waits.old waits.new }
+        ensures played { Plays calls.Value (answers.Number result) (parties_of waits.old) (parties_of waits.new) }
+        ensures none { IsWhole (part_of waits.old) → (counts_of waits.old).ended ≡ (counts_of waits.old).begun → result ≡ 0 }
     {
-        self.number_of_waiters.load::<Look>(pass, 0)
+        let begun = begin_new::<ValueCall, Pass<PlayedWaits>>(waits);
+        let (waiting, looked) = begun.load(&self.number_of_waiters, 0);
+        let _waits = looked.end(&self.number_of_waiters);
+        waiting
     }
 
     /// Counts a wait in.
-    #[tactic(auto, using(crate::proofs::CondKeeps::counts_in))]
     #[inline(always)]
-    fn count_in(&self, pass: &mut Pass<Waits>)
-        requires own { IsPassOf self.now.number_of_waiters pass.old }
-        requires outside { (tally_of pass.old).inside ≡ 0 }
-        ensures counted { HasDone went_in pass.old pass.new }
+    fn count_in<'p>(&self, waits: &'p mut Pass<PlayedWaits>) -> Turn<'p, Pass<PlayedWaits>, Goes>
+        requires own { IsPassOf self.now.number_of_waiters waits.old }
+        ensures same_borrow { result.pass.ghost_name ≡ waits.entry.ghost_name }
+        ensures counted { HasDone went_in waits.old result.pass.now }
+        ensures inside { IsInside (all_of (parties_of waits.old)) (parties_of result.pass.now) }
     {
-        self.number_of_waiters.fetch_add::<CountIn>(pass, 0, 1);
+        let begun = begin_new::<WaitCall, Pass<PlayedWaits>>(waits);
+        let (_, counted) = begun.add(&self.number_of_waiters, 0, 1);
+        counted
     }
 
-    /// Counts a wait out again.
-    #[tactic(auto, using(crate::proofs::CondKeeps::counts_out))]
+    /// Waits for a permit, as the counted wait is to do until it is counted out, and counts it out. Whether a permit was taken, and the pass of
+    /// the count.
     #[inline(always)]
-    fn count_out(&self, pass: &mut Pass<Waits>)
-        requires own { IsPassOf self.now.number_of_waiters pass.old }
-        requires inside { (tally_of pass.old).inside ≡ 1 }
-        ensures counted { HasDone went_out pass.old pass.new }
+    fn sleep<'p, R: Wait, W: Fn(&WaitWord, &u64) -> WaitAction>(
+        &self,
+        rt: &R,
+        counted: Turn<'p, Pass<PlayedWaits>, Goes>,
+        permits: &mut SemPass,
+        wait: W,
+    ) -> (bool, &'p mut Pass<PlayedWaits>)
+        requires own { IsPassOf self.now.number_of_waiters counted.pass.now × IsSemPass self.now.semaphore permits.old }
+        requires inside { (done : List (Slot ℕ)) × IsInside done (parties_of counted.pass.now) }
+        requires may { W.IsAlwaysCallable wait }
+        ensures same_borrow { result.1.ghost_name ≡ counted.entry.pass.ghost_name }
+        ensures counted { HasDone went_out counted.entry.pass.now result.1.now }
+        ensures out { (done : List (Slot ℕ)) → IsInside done (parties_of counted.entry.pass.now) → IsOut done (parties_of result.1.now) }
+        ensures slept { HasSlept W.Fn wait (initial_of self.now.semaphore) result.0 permits.old permits.new }
     {
-        self.number_of_waiters.fetch_sub::<CountOut>(pass, 0, 1);
+        let (signalled, slept) = counted.run(
+            &self.number_of_waiters,
+            permits,
+            |permits: &mut SemPass| -> bool
+                requires { IsSemPass self.now.semaphore permits.old × W.IsAlwaysCallable wait }
+                ensures { HasSlept W.Fn wait (initial_of self.entry.now.semaphore) result permits.old permits.new }
+            { self.take(rt, permits, wait) },
+        );
+        (signalled, self.count_out(slept))
+    }
+
+    /// Counts a wait out, once what it does while it is counted has ended.
+    #[inline(always)]
+    fn count_out<'p>(
+        &self,
+        slept: Turn<'p, Pass<PlayedWaits>, AfterAside>,
+    ) -> &'p mut Pass<PlayedWaits>
+        requires own { IsPassOf self.now.number_of_waiters slept.pass.now }
+        requires inside { (done : List (Slot ℕ)) × IsInside done (parties_of slept.pass.now) }
+        ensures same_borrow { result.ghost_name ≡ slept.entry.pass.ghost_name }
+        ensures counted { HasDone went_out slept.entry.pass.now result.now }
+        ensures out { (done : List (Slot ℕ)) → IsInside done (parties_of slept.entry.pass.now) → IsOut done (parties_of result.now) }
+    {
+        let (_, over) = slept.subtract(&self.number_of_waiters, 0, 1);
+        over.end(&self.number_of_waiters)
+    }
+
+    /// The semaphore's `wait`, and whether a permit was taken.
+    #[inline(always)]
+    fn take<R: Wait, W: Fn(&WaitWord, &u64) -> WaitAction>(
+        &self,
+        rt: &R,
+        permits: &mut SemPass,
+        wait: W,
+    ) -> bool
+        requires own { IsSemPass self.now.semaphore permits.old }
+        requires may { W.IsAlwaysCallable wait }
+        ensures slept { HasSlept W.Fn wait (initial_of self.now.semaphore) result permits.old permits.new }
+    {
+        match self.semaphore.wait(rt, permits, wait) {
+            WaitResult::Success(()) => true,
+            WaitResult::Interrupted => false,
+        }
     }
 }
 
@@ -495,8 +563,8 @@ fn lock_again<A: Allocator, R: Wait, M: Fn(&WaitWord, &u64) -> WaitAction>(
     }
 }
 
-/// Whenever the rule of a condition variable holds, its word is the number of waits that all passes together have inside, modulo 2^64.
-/// Says so of the rule alone, and does nothing.
+/// Whenever the rule of the count holds, its passes are the parties of a run of its model, and its word is how many of them wait, modulo
+/// 2^64: all that were counted in, but those that were counted out. Says so of the rule alone, and does nothing.
 pub fn count_is_those_inside()
     ensures { CountIsInside }
 {}

@@ -6,24 +6,25 @@
 #![tactic(auto)]
 
 ghost use Rattle.std.specs.Prelude.{◌≡◌, ℕ, IfOk};
-ghost use Rattle.playing.specs.Passes.{parties_of, counts_of};
-ghost use Rattle.playing.specs.Stages.{count_of};
+ghost use Rattle.running_model.specs.Passes.{parties_of, counts_of};
+ghost use Rattle.running_model.specs.Stages.{count_of};
 ghost use Rattle.running_mutex.specs.MutexParties.{HasMutex};
 ghost use Rattle.running_mutex.specs.MutexSteps.{GrantsAreOfARun, OneHolder};
 
 pub mod condition_variable;
+mod waits;
 
-use passes::{Deed, Origin, Pass, WaitResult};
-use playing::turn::{
+use model_events::WaitAction;
+use model_mutex::{MutexPlace, granted};
+use running_model::turn::{
     Attempt, Called, Continues, Goes, Turn, Way, begin_held, begin_new, try_again,
 };
-use playing::{Sealed, Stage};
+use running_model::{Sealed, Stage};
+use running_passes::{Deed, Origin, Pass, WaitResult};
+use running_tallies::{Holds, MutexScript, PlayedMutex, WaitWord};
 use std::alloc::{AllocError, Allocator, Global};
 use std::ops::Deref;
 use std::sync::Wait;
-use steps_events::WaitAction;
-use steps_mutex::{MutexPlace, granted};
-use tallies::{Holds, MutexScript, PlayedMutex, WaitWord};
 
 /// A lock with one holder at most.
 #[derive(Drop)]
@@ -34,7 +35,7 @@ pub struct Mutex<A: Allocator = Global> {
 
 /// What the passes of a mutex come from, at which they are split and joined.
 impl<A: Allocator> Deref for Mutex<A> {
-    ghost use Rattle.playing.specs.Stages.{origin};
+    ghost use Rattle.running_model.specs.Stages.{origin};
 
     type Target = Origin<(), PlayedMutex, A>;
 
@@ -79,7 +80,7 @@ impl Deed<(), Holds> for Release {
 struct TryLockCall;
 
 impl Called<u64> for TryLockCall {
-    ghost use Rattle.steps_events.specs.declared.event.Call.TheVariants as calls;
+    ghost use Rattle.model_events.specs.declared.event.Call.TheVariants as calls;
 
     ghost call = { calls.TryLock };
 }
@@ -88,7 +89,7 @@ impl Called<u64> for TryLockCall {
 struct LockCall;
 
 impl Called<u64> for LockCall {
-    ghost use Rattle.steps_events.specs.declared.event.Call.TheVariants as calls;
+    ghost use Rattle.model_events.specs.declared.event.Call.TheVariants as calls;
 
     ghost call = { calls.Lock };
 }
@@ -97,7 +98,7 @@ impl Called<u64> for LockCall {
 struct UnlockCall;
 
 impl Called<u64> for UnlockCall {
-    ghost use Rattle.steps_events.specs.declared.event.Call.TheVariants as calls;
+    ghost use Rattle.model_events.specs.declared.event.Call.TheVariants as calls;
 
     ghost call = { calls.Unlock };
 }
@@ -105,27 +106,27 @@ impl Called<u64> for UnlockCall {
 impl<A: Allocator> Mutex<A> {
     ghost use Rattle.std.specs.Borrow.{sem, u64};
     ghost use Rattle.std.specs.Prelude.{true, false, ◌+◌, [], ◌∷◌, Some, None, MatchBool};
-    ghost use Rattle.steps_events.specs.declared.event.Word.TheVariants as words;
-    ghost use Rattle.steps_events.specs.declared.event.Call.TheVariants as calls;
-    ghost use Rattle.steps_events.specs.declared.event.Answer.TheVariants as answers;
-    ghost use Rattle.steps_events.specs.declared.hold.HoldKind.TheVariants as kinds;
-    ghost use Rattle.steps_events.specs.declared.row.Intent.TheVariants as intents;
-    ghost use Rattle.tallies.specs.MutexScript.{mutex_model};
-    ghost use Rattle.steps_mutex.specs.contracts.MutexPlace as place_row;
-    ghost use Rattle.passes.specs.Answers.{IfSuccess, IfInterrupted, IsSuccess, RestsIfInterrupted, MayAnswerAbort, HasWoken};
-    ghost use Rattle.passes.specs.Passes.{view};
-    ghost use Rattle.passes.specs.Views.{first_view};
-    ghost use Rattle.passes.specs.contracts.pass.Pass.{the_row};
-    ghost use Rattle.playing.specs.contracts.played.Played as played_row;
-    ghost use Rattle.playing.specs.Slots.{no_parties};
-    ghost use Rattle.playing.specs.Plays.{MayStep, Beginning};
-    ghost use Rattle.playing.specs.Passes.{played};
-    ghost use Rattle.playing.specs.Counts.{HasGivenUp};
-    ghost use Rattle.playing.specs.Stages.{id_of};
-    ghost use Rattle.tallies.specs.contracts.mutex.Holds as holds_row;
-    ghost use Rattle.tallies.specs.contracts.mutex.MutexScript as script_row;
-    ghost use Rattle.tallies.specs.MutexRule.{no_holds};
-    ghost use Rattle.tallies.specs.Shown.{object_shown, index_shown};
+    ghost use Rattle.model_events.specs.declared.event.Word.TheVariants as words;
+    ghost use Rattle.model_events.specs.declared.event.Call.TheVariants as calls;
+    ghost use Rattle.model_events.specs.declared.event.Answer.TheVariants as answers;
+    ghost use Rattle.model_events.specs.declared.hold.HoldKind.TheVariants as kinds;
+    ghost use Rattle.model_events.specs.declared.row.Intent.TheVariants as intents;
+    ghost use Rattle.running_tallies.specs.MutexScript.{mutex_model};
+    ghost use Rattle.model_mutex.specs.contracts.MutexPlace as place_row;
+    ghost use Rattle.running_passes.specs.Answers.{IfSuccess, IfInterrupted, IsSuccess, RestsIfInterrupted, MayAnswerAbort, HasWoken};
+    ghost use Rattle.running_passes.specs.Passes.{view};
+    ghost use Rattle.running_passes.specs.Views.{first_view};
+    ghost use Rattle.running_passes.specs.contracts.pass.Pass.{the_row};
+    ghost use Rattle.running_model.specs.contracts.played.Played as played_row;
+    ghost use Rattle.running_model.specs.Slots.{no_parties};
+    ghost use Rattle.running_model.specs.Plays.{MayStep, Beginning};
+    ghost use Rattle.running_model.specs.Passes.{played};
+    ghost use Rattle.running_model.specs.Counts.{HasGivenUp};
+    ghost use Rattle.running_model.specs.Stages.{id_of};
+    ghost use Rattle.running_tallies.specs.contracts.mutex.Holds as holds_row;
+    ghost use Rattle.running_tallies.specs.contracts.mutex.MutexScript as script_row;
+    ghost use Rattle.running_tallies.specs.MutexRule.{no_holds};
+    ghost use Rattle.running_tallies.specs.Shown.{object_shown, index_shown};
     ghost use Rattle.running_mutex.specs.MutexShown.{IsMutexPass, IsAlone, IsLocked, holds_of, grants_of, pass_of, borrow_of, HasLocked, HasSeenLocked, HasUnlocked, HasEntered, HasStayed, HasTried, HasPlayed, HasPlayedUnlock, HasPlayedBoth};
 
     /// A mutex that is free, and the pass that is whole. `Err` where there was no memory; then nothing was made.
@@ -332,15 +333,15 @@ impl<A: Allocator> Mutex<A> {
 /// An exchange of `lock`.
 impl<A: Allocator> Attempt<(), MutexScript, MutexPlace, u64, Holds> for Mutex<A> {
     ghost use Rattle.std.specs.Prelude.{◌+◌, Some, IfErr};
-    ghost use Rattle.passes.specs.Passes.{object_of, sights_of};
-    ghost use Rattle.playing.specs.Counts.{HasMoved, WasRefusedAt};
-    ghost use Rattle.playing.specs.Tries.{MayTry, Tried, IsGranted, IsRefused};
-    ghost use Rattle.tallies.specs.MutexScript.{mutex_model};
+    ghost use Rattle.running_passes.specs.Passes.{object_of, sights_of};
+    ghost use Rattle.running_model.specs.Counts.{HasMoved, WasRefusedAt};
+    ghost use Rattle.running_model.specs.Tries.{MayTry, Tried, IsGranted, IsRefused};
+    ghost use Rattle.running_tallies.specs.MutexScript.{mutex_model};
     ghost use Rattle.std.proofs.Common.{refl};
-    ghost use Rattle.steps_events.specs.declared.event.Call.TheVariants as calls;
-    ghost use Rattle.steps_events.specs.declared.hold.HoldKind.TheVariants as kinds;
-    ghost use Rattle.steps_mutex.specs.declared.MutexPlace.TheVariants as places;
-    ghost use Rattle.playing.specs.Stages.{id_of};
+    ghost use Rattle.model_events.specs.declared.event.Call.TheVariants as calls;
+    ghost use Rattle.model_events.specs.declared.hold.HoldKind.TheVariants as kinds;
+    ghost use Rattle.model_mutex.specs.declared.MutexPlace.TheVariants as places;
+    ghost use Rattle.running_model.specs.Stages.{id_of};
     ghost use Rattle.running_mutex.specs.MutexShown.{IsLocked, Enters};
 
     ghost object = { λ m. id_of m.stage };

@@ -1,8 +1,8 @@
 -- After each step of a once its passes began and completed as many closures as the run has.
 use Rattle.running_once.specs.Names.{Word, Act, Event, Intent, once_table, is_begin, is_end, View, Parties, Coming, sum_of, GoesOnCounting, none_played, both_played}
 use Rattle.running_once.proofs.Names.{◌≡◌, ℕ, ◌+◌, ◌==◌, Bool, true, false, cond, List, [], ◌∷◌, refl, ap, sym, ◌∙◌, arith, eqb-true, eqb-false}
-use Rattle.steps_events.specs.Past.{word_in, word_after}
-use Rattle.playing.proofs.OfARun.{of_a_run}
+use Rattle.model_events.specs.Past.{word_in, word_after}
+use Rattle.running_model.proofs.OfARun.{of_a_run}
 use Rattle.running_once.specs.declared.Runs.{Runs}
 use Rattle.running_once.specs.OnceScript.{once_model, once_lawful}
 use Rattle.running_once.specs.OnceRule.{both_runs, is_completion, AreRunsIn, Loaded, Exchanged, Stored, OnceAgrees, ClosuresAreOfARun, no_runs}

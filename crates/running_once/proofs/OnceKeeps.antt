@@ -2,8 +2,8 @@
 use Rattle.running_once.specs.Names.{View, IsWhole, total, looked, missed, wrote, sum_of, Updates, none_played, both_played, core_played, played_add_up}
 use Rattle.running_once.proofs.Names.{◌≡◌, ℕ, ◌+◌, ◌*◌, ◌≤◌, Bool, true, false, ◌||◌, eqb, List, [], ◌∷◌, get_or, set, refl, ap, ◌∙◌, ◌⊎◌, inl, inr, arith, length-set, get_or-set_same, eqb-true}
 use prog.Atomic.{either}
-use Rattle.passes.proofs.Sums.{others, sum_at}
-use Rattle.passes.proofs.Updates.{by_look, by_exchange}
+use Rattle.running_passes.proofs.Sums.{others, sum_at}
+use Rattle.running_passes.proofs.Updates.{by_look, by_exchange}
 use Rattle.running_once.specs.declared.Runs.{Runs}
 use Rattle.running_once.specs.OnceRule.{no_runs, both_runs, known_runs, IsRun, OnceAgrees, OnceView, OneClosure, KnownHasEnded, learns, began, ended, Says, Loaded, Exchanged, Stored}
 use Rattle.running_once.specs.OnceTally.{runs_add_up}

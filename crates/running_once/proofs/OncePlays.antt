@@ -2,8 +2,8 @@
 use Rattle.running_once.specs.Names.{MatchBool, Word, Call, Answer, Intent, OncePlace, once_intent, Slot, Parties, all_of, Coming, Going, Beginning, Aside, ComesBy, Led, HasCalled, MayStep, Went}
 use Rattle.running_once.proofs.Names.{◌≡◌, ◌≢◌, ℕ, ◌==◌, Bool, true, false, refl, sym, ap, subst, List, [], ◌∷◌, None, ne_eqb, is_over}
 use Rattle.running_once.specs.OnceScript.{once_model}
-use Rattle.playing.specs.Turns.{IsOver}
-use Rattle.playing.specs.Tries.{IsToEnd}
+use Rattle.running_model.specs.Turns.{IsOver}
+use Rattle.running_model.specs.Tries.{IsToEnd}
 use Rattle.running_once.specs.OnceParties.{ComesToBegin, IsRunning, ComesToStay, HasLeft}
 
 abbrev Comes : Coming ℕ → Call ℕ → OncePlace → List (Slot ℕ) → Parties ℕ → Type 0

@@ -1,21 +1,21 @@
 -- What this crate reads of others.
-pub use Rattle.passes.specs.Parts.{IsWhole, total}
-pub use Rattle.passes.specs.Passes.{IsSamePass, part_of, sights_of}
-pub use Rattle.passes.specs.Views.{view_of, looked, missed, wrote, IsCounted, sum_of, Updates}
-pub use Rattle.passes.specs.declared.view.View.{View}
-pub use Rattle.playing.specs.Passes.{none_played, both_played, PlaysAndCounts, IsOfARun, parties_of, counts_of, counted, StaysOnNoWord, GoesOnCounting, core_played, played_add_up}
-pub use Rattle.playing.specs.Plays.{HasCalled, IsAt, HasEnded, Going, Aside, Beginning, MayStep, Went, Coming, ComesBy, Led}
-pub use Rattle.playing.specs.Slots.{Parties, Slot, all_of}
-pub use Rattle.playing.specs.declared.played.Played.{Played}
+pub use Rattle.running_passes.specs.Parts.{IsWhole, total}
+pub use Rattle.running_passes.specs.Passes.{IsSamePass, part_of, sights_of}
+pub use Rattle.running_passes.specs.Views.{view_of, looked, missed, wrote, IsCounted, sum_of, Updates}
+pub use Rattle.running_passes.specs.declared.view.View.{View}
+pub use Rattle.running_model.specs.Passes.{none_played, both_played, PlaysAndCounts, IsOfARun, parties_of, counts_of, counted, StaysOnNoWord, GoesOnCounting, core_played, played_add_up}
+pub use Rattle.running_model.specs.Plays.{HasCalled, IsAt, HasEnded, Going, Aside, Beginning, MayStep, Went, Coming, ComesBy, Led}
+pub use Rattle.running_model.specs.Slots.{Parties, Slot, all_of}
+pub use Rattle.running_model.specs.declared.played.Played.{Played}
 pub use Rattle.std.specs.Prelude.{◌≡◌, ℕ, true, None, List, ◌≢◌, ◌+◌, ◌*◌, ◌≤◌, Bool, false, ◌||◌, ◌==◌, [], ◌∷◌, length, slice_index, ◌<◌, ◌⊎◌, MatchBool}
-pub use Rattle.steps_events.specs.declared.event.Act.{Act}
-pub use Rattle.steps_events.specs.declared.event.Answer.{Answer}
-pub use Rattle.steps_events.specs.declared.event.Call.{Call}
-pub use Rattle.steps_events.specs.declared.event.Event.{Event}
-pub use Rattle.steps_events.specs.declared.event.Then.{Then}
-pub use Rattle.steps_events.specs.declared.event.Word.{Word}
-pub use Rattle.steps_events.specs.declared.row.Intent.{Intent}
-pub use Rattle.steps_once.specs.Closures.{ends_in, begins_in, is_begin, is_end}
-pub use Rattle.steps_once.specs.Law.{KeepsOnce, tells_end}
-pub use Rattle.steps_once.specs.Table.{once_table, once_intent}
-pub use Rattle.steps_once.specs.declared.OncePlace.{OncePlace}
+pub use Rattle.model_events.specs.declared.event.Act.{Act}
+pub use Rattle.model_events.specs.declared.event.Answer.{Answer}
+pub use Rattle.model_events.specs.declared.event.Call.{Call}
+pub use Rattle.model_events.specs.declared.event.Event.{Event}
+pub use Rattle.model_events.specs.declared.event.Then.{Then}
+pub use Rattle.model_events.specs.declared.event.Word.{Word}
+pub use Rattle.model_events.specs.declared.row.Intent.{Intent}
+pub use Rattle.model_once.specs.Closures.{ends_in, begins_in, is_begin, is_end}
+pub use Rattle.model_once.specs.Law.{KeepsOnce, tells_end}
+pub use Rattle.model_once.specs.Table.{once_table, once_intent}
+pub use Rattle.model_once.specs.declared.OncePlace.{OncePlace}

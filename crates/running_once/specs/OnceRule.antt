@@ -4,7 +4,7 @@ use mathlib.Core.Option as maybe
 use mathlib.Core.Option.{some}
 use lib.ListN.{get_elem?}
 use Rattle.atomic_table.specs.Table.{State}
-use Rattle.steps_events.specs.Sights.{acts_in}
+use Rattle.model_events.specs.Sights.{acts_in}
 use Rattle.running_once.specs.OnceScript.{once_model}
 use Rattle.running_once.specs.declared.Runs.{Runs}
 use Rattle.running_once.specs.declared.OnceScript.{OnceScript}

@@ -1,14 +1,15 @@
 -- What contracts see of a once and its pass, and what a call changes in a pass.
 use Rattle.running_once.specs.Names.{◌≡◌, ◌≢◌, ℕ, ◌<◌, ◌≤◌, ◌⊎◌, true, None, Call, Answer, OncePlace, View, IsSamePass, part_of, sights_of, looked, wrote, Played, Parties, HasCalled, parties_of, counts_of, counted}
 use Rattle.running_once.specs.OnceScript.{once_model}
-use Rattle.passes.specs.declared.part.Part.{Part}
-use Rattle.passes.specs.declared.part.Sights.{Sights}
-use Rattle.passes.specs.declared.pass.Pass.{Pass}
-use Rattle.playing.specs.Stages.{IsPassOf}
+use Rattle.running_passes.specs.declared.part.Part.{Part}
+use Rattle.running_passes.specs.declared.part.Sights.{Sights}
+use Rattle.running_passes.specs.declared.pass.Pass.{Pass}
+use Rattle.running_model.specs.Stages.{IsPassOf}
 use Rattle.running_once.specs.declared.Runs.{Runs}
 use Rattle.running_once.specs.declared.OnceScript.{OnceScript}
 use Rattle.running_once.specs.declared.Once.{Once}
 use Rattle.running_once.specs.declared.OncePass.{OncePass}
+use Rattle.running_once.specs.declared.Ran.{Ran}
 use Rattle.running_once.specs.OnceRule.{learns, began, ended}
 
 -- the pass inside
@@ -20,6 +21,10 @@ pass_in p = p.pass
 
 abbrev pub IsOncePass : {A : Type 0} → Once A → OncePass → Type 0
 IsOncePass o p = IsPassOf o.stage (pass_in p)
+
+-- what the closure gave that was run
+abbrev pub given_by : {Y : Type 0} → Ran Y → Y
+given_by ran = ran.given
 
 -- what the pass knows
 abbrev pub known_by : OncePass → View Runs

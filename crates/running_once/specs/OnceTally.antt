@@ -1,8 +1,8 @@
 -- What the passes of a once count and know adds up, and acts on no word begin and complete nothing.
 use Rattle.std.proofs.Common.{◌≡◌, ℕ, ◌+◌, Bool, true, false, cond, ◌||◌, refl, ap, arith}
 use Rattle.running_once.specs.Names.{Act, is_begin, StaysOnNoWord}
-use Rattle.passes.specs.Tallies.{IsTally}
-use Rattle.playing.specs.Words.{IsOnNoWord, on_no_word}
+use Rattle.running_passes.specs.Tallies.{IsTally}
+use Rattle.running_model.specs.Words.{IsOnNoWord, on_no_word}
 use Rattle.running_once.specs.OnceRule.{runs, no_runs, both_runs, known_runs, is_completion, AreRunsIn}
 
 same_runs : (a b c d : ℕ) (x y : Bool) → a ≡ b → c ≡ d → x ≡ y → runs a c x ≡ runs b d y

@@ -5,25 +5,25 @@
 #![tactic(auto)]
 
 ghost use Rattle.std.specs.Prelude.{◌≡◌, ℕ, IfOk};
-ghost use Rattle.playing.specs.Passes.{counts_of};
-ghost use Rattle.playing.specs.Stages.{count_of};
+ghost use Rattle.running_model.specs.Passes.{counts_of};
+ghost use Rattle.running_model.specs.Stages.{count_of};
 ghost use Rattle.running_once.specs.OnceRule.{ClosuresAreOfARun, OneClosure, KnownHasEnded};
 ghost use Rattle.running_once.specs.OnceLaws.{DoneComesAfterTheEnd, TrueComesAfterTheEnd};
 
-use passes::{Deed, Pass, Rule, Tally};
-use playing::turn::{AfterAside, Called, Goes, Turn, Way, begin_new};
-use playing::{Counts, Played, Script, Stage};
+use model_once::{OncePlace, begun};
+use running_model::turn::{AfterAside, Called, Goes, Turn, Way, begin_new};
+use running_model::{Counts, Played, Script, Stage};
+use running_passes::{Deed, Pass, Rule, Tally};
 use std::alloc::{AllocError, Allocator, Global};
 use std::hint::spin_loop;
 use std::sync::Wait;
-use steps_once::{OncePlace, begun};
 
 /// The model that a once plays: its one word is the once's.
 pub struct OnceScript;
 
 impl Script<(), OncePlace, u64> for OnceScript {
     ghost use Rattle.std.specs.Prelude.{[], ◌∷◌};
-    ghost use Rattle.steps_events.specs.declared.event.Word.TheVariants as words;
+    ghost use Rattle.model_events.specs.declared.event.Word.TheVariants as words;
     ghost use Rattle.running_once.specs.OnceScript.{once_model, once_lawful};
 
     ghost model = { λ _. once_model };
@@ -99,6 +99,23 @@ pub struct OncePass {
     ghost settled: { (counts_of pass).running ≡ 0 },
 }
 
+/// What a closure gave that a once ran, between its begin and its end. Only a run makes one.
+#[derive(Drop)]
+pub struct Ran<Y> {
+    given: Y,
+}
+
+impl<Y> Ran<Y> {
+    ghost use Rattle.running_once.specs.OnceShown.{given_by};
+
+    /// What the closure gave.
+    pub fn given(&self) -> &Y
+        ensures { result.now ≡ given_by self.now }
+    {
+        &self.given
+    }
+}
+
 /// A load.
 struct Look;
 
@@ -130,7 +147,7 @@ impl Deed<(), Runs> for End {
 struct CallOnceCall;
 
 impl Called<u64> for CallOnceCall {
-    ghost use Rattle.steps_events.specs.declared.event.Call.TheVariants as calls;
+    ghost use Rattle.model_events.specs.declared.event.Call.TheVariants as calls;
 
     ghost call = { calls.CallOnce };
 }
@@ -139,17 +156,17 @@ impl Called<u64> for CallOnceCall {
 struct IsCompletedCall;
 
 impl Called<u64> for IsCompletedCall {
-    ghost use Rattle.steps_events.specs.declared.event.Call.TheVariants as calls;
+    ghost use Rattle.model_events.specs.declared.event.Call.TheVariants as calls;
 
     ghost call = { calls.IsCompleted };
 }
 
 impl OncePass {
     ghost use Rattle.std.specs.Prelude.{true, is_ok};
-    ghost use Rattle.passes.specs.declared.part.Part.{Part};
-    ghost use Rattle.passes.specs.Parts.{half, IsAgain, IsSamePart, AddUp};
-    ghost use Rattle.passes.specs.Views.{left_view, right_view, joined_view};
-    ghost use Rattle.playing.specs.Slots.{no_parties, both_parties};
+    ghost use Rattle.running_passes.specs.declared.part.Part.{Part};
+    ghost use Rattle.running_passes.specs.Parts.{half, IsAgain, IsSamePart, AddUp};
+    ghost use Rattle.running_passes.specs.Views.{left_view, right_view, joined_view};
+    ghost use Rattle.running_model.specs.Slots.{no_parties, both_parties};
     ghost use Rattle.running_once.specs.OnceRule.{both_runs, known_runs};
     ghost use Rattle.running_once.specs.OnceShown.{IsOncePass, known_by, parties_of_once, part_of_once};
 
@@ -197,23 +214,23 @@ impl OncePass {
 impl<A: Allocator> Once<A> {
     ghost use Rattle.std.specs.Fn.{FnOnceTakesAtMut, FnOnceReturnsAtMut};
     ghost use Rattle.std.specs.Prelude.{IfSome, IfNone, None, true, false, ◌+◌, ◌*◌, ◌<◌, ◌≢◌, MatchBool, List, [], ◌∷◌};
-    ghost use Rattle.steps_events.specs.declared.event.Word.TheVariants as words;
-    ghost use Rattle.steps_events.specs.declared.event.Call.TheVariants as calls;
-    ghost use Rattle.steps_events.specs.declared.event.Answer.TheVariants as answers;
-    ghost use Rattle.steps_events.specs.declared.row.Intent.TheVariants as intents;
+    ghost use Rattle.model_events.specs.declared.event.Word.TheVariants as words;
+    ghost use Rattle.model_events.specs.declared.event.Call.TheVariants as calls;
+    ghost use Rattle.model_events.specs.declared.event.Answer.TheVariants as answers;
+    ghost use Rattle.model_events.specs.declared.row.Intent.TheVariants as intents;
     ghost use Rattle.running_once.specs.OnceScript.{once_model};
-    ghost use Rattle.passes.specs.Parts.{IsWhole};
-    ghost use Rattle.passes.specs.Views.{first_view};
-    ghost use Rattle.passes.specs.Sights.{HasLooked};
-    ghost use Rattle.passes.specs.Passes.{part_of, sights_of, IsSamePass};
-    ghost use Rattle.playing.specs.Slots.{Slot, no_parties};
-    ghost use Rattle.playing.specs.Plays.{Beginning, HasCalled, MayStep, Went};
-    ghost use Rattle.playing.specs.Passes.{parties_of, counted};
-    ghost use Rattle.playing.specs.Counts.{HasDone};
-    ghost use Rattle.playing.specs.Stages.{IsPassOf};
+    ghost use Rattle.running_passes.specs.Parts.{IsWhole};
+    ghost use Rattle.running_passes.specs.Views.{first_view};
+    ghost use Rattle.running_passes.specs.Sights.{HasLooked};
+    ghost use Rattle.running_passes.specs.Passes.{part_of, sights_of, IsSamePass};
+    ghost use Rattle.running_model.specs.Slots.{Slot, no_parties};
+    ghost use Rattle.running_model.specs.Plays.{Beginning, HasCalled, MayStep, Went};
+    ghost use Rattle.running_model.specs.Passes.{parties_of, counted};
+    ghost use Rattle.running_model.specs.Counts.{HasDone};
+    ghost use Rattle.running_model.specs.Stages.{IsPassOf};
     ghost use Rattle.running_once.specs.OnceRule.{no_runs, ended, Amounts, Loaded};
     ghost use Rattle.running_once.specs.OnceParties.{ComesToBegin, IsRunning, ComesToStay, HasLeft, WhereBegins, WhereRuns, WhereStays};
-    ghost use Rattle.running_once.specs.OnceShown.{CompletesWithin, SeesOnceWithin, IsOncePass, IsComplete, HasSeenOnce, HasCompleted, HasBegun, HasOnlyWaited, HasPlayed, IsTaken, known_by, parties_of_once, part_of_once, sights_of_once, ended_of};
+    ghost use Rattle.running_once.specs.OnceShown.{CompletesWithin, SeesOnceWithin, IsOncePass, IsComplete, HasSeenOnce, HasCompleted, HasBegun, HasOnlyWaited, HasPlayed, IsTaken, given_by, known_by, parties_of_once, part_of_once, sights_of_once, ended_of};
 
     /// A once whose closure has not run, and the pass that is whole. `Err` where there was no memory; then nothing was made.
     pub fn new(alloc: A) -> Result<(Once<A>, OncePass), AllocError>
@@ -259,18 +276,21 @@ impl<A: Allocator> Once<A> {
         pass: &mut OncePass,
         on: &mut X,
         f: F,
-    ) -> Option<Y>
+    ) -> Option<Ran<Y>>
         requires own { IsOncePass self.now pass.old }
         requires may { FnOnceTakesAtMut F.FnOnce f on.old }
         ensures completed { HasCompleted pass.old pass.new }
-        ensures ran { IfSome result (λ given. FnOnceReturnsAtMut F.FnOnce f on.old given on.new) }
+        ensures ran { IfSome result (λ ran. FnOnceReturnsAtMut F.FnOnce f on.old (given_by ran) on.new) }
         ensures counted { IfSome result (λ _. ended_of pass.old < ended_of pass.new) }
         ensures let_go { IfNone result ((ended_of pass.new ≡ ended_of pass.old) × (on.new ≡ on.old)) }
         ensures kept { IsComplete pass.old → HasSeenOnce pass.old pass.new }
         ensures exact { IsWhole (part_of_once pass.old) → ended_of pass.new ≡ 1 }
         ensures played { HasPlayed calls.CallOnce answers.Done pass.old pass.new }
     {
-        self.run_or_wait(rt, &mut pass.pass, on, f)
+        match self.run_or_wait(rt, &mut pass.pass, on, f) {
+            Some(given) => Some(Ran { given }),
+            None => None,
+        }
     }
 
     /// Whether a closure has ended: one load.

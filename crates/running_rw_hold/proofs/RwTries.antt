@@ -2,19 +2,19 @@
 use Rattle.std.proofs.Common.{◌≡◌, ℕ, ◌+◌, ◌==◌, ◌&&◌, Bool, true, false, MatchBool, inl, inr, refl, sym, ap, subst, ◌∙◌, arith}
 use Rattle.std.specs.Borrow.{Bor}
 use Rattle.std.specs.Fn.{Shared}
-use Rattle.steps_events.specs.declared.WaitAction.{WaitAction}
-use Rattle.steps_events.proofs.Holds.{eqb_same}
-use Rattle.passes.specs.declared.part.Part.{Part}
-use Rattle.passes.specs.declared.view.View.{View}
-use Rattle.passes.specs.declared.pass.Pass.{Pass}
-use Rattle.passes.specs.Sights.{HasLooked}
-use Rattle.passes.specs.Views.{looked}
-use Rattle.passes.specs.Passes.{part_of, sights_of}
-use Rattle.passes.specs.Answers.{HasAsked}
-use Rattle.playing.specs.declared.played.Played.{Played}
-use Rattle.playing.specs.Passes.{counts_of, counted}
-use Rattle.playing.specs.Counts.{HasSeen, HasMissed, HasDone, HasOnlySeen, HasMoved, WasRefused, WasRefusedAt, HasGivenUp}
-use Rattle.playing.proofs.Attempts.{seen_twice, moved_later}
+use Rattle.model_events.specs.declared.WaitAction.{WaitAction}
+use Rattle.model_events.proofs.Holds.{eqb_same}
+use Rattle.running_passes.specs.declared.part.Part.{Part}
+use Rattle.running_passes.specs.declared.view.View.{View}
+use Rattle.running_passes.specs.declared.pass.Pass.{Pass}
+use Rattle.running_passes.specs.Sights.{HasLooked}
+use Rattle.running_passes.specs.Views.{looked}
+use Rattle.running_passes.specs.Passes.{part_of, sights_of}
+use Rattle.running_passes.specs.Answers.{HasAsked}
+use Rattle.running_model.specs.declared.played.Played.{Played}
+use Rattle.running_model.specs.Passes.{counts_of, counted}
+use Rattle.running_model.specs.Counts.{HasSeen, HasMissed, HasDone, HasOnlySeen, HasMoved, WasRefused, WasRefusedAt, HasGivenUp}
+use Rattle.running_model.proofs.Attempts.{seen_twice, moved_later}
 use Rattle.running_rw_hold.specs.RwShown.{TurnsAway}
 
 both_true : (fresh : Bool) (last from : ℕ) → fresh ≡ true → last ≡ from → (fresh && (last == from)) ≡ true

@@ -1,12 +1,12 @@
 //! The calls of a reader-writer lock.
 
-use playing::turn::Called;
+use running_model::turn::Called;
 
 /// A `TryReadLock`.
 pub struct TryReadCall;
 
 impl Called<u64> for TryReadCall {
-    ghost use Rattle.steps_events.specs.declared.event.Call.TheVariants as calls;
+    ghost use Rattle.model_events.specs.declared.event.Call.TheVariants as calls;
 
     ghost call = { calls.TryReadLock };
 }
@@ -15,7 +15,7 @@ impl Called<u64> for TryReadCall {
 pub struct ReadCall;
 
 impl Called<u64> for ReadCall {
-    ghost use Rattle.steps_events.specs.declared.event.Call.TheVariants as calls;
+    ghost use Rattle.model_events.specs.declared.event.Call.TheVariants as calls;
 
     ghost call = { calls.ReadLock };
 }
@@ -24,7 +24,7 @@ impl Called<u64> for ReadCall {
 pub struct TryWriteCall;
 
 impl Called<u64> for TryWriteCall {
-    ghost use Rattle.steps_events.specs.declared.event.Call.TheVariants as calls;
+    ghost use Rattle.model_events.specs.declared.event.Call.TheVariants as calls;
 
     ghost call = { calls.TryWriteLock };
 }
@@ -33,7 +33,7 @@ impl Called<u64> for TryWriteCall {
 pub struct WriteCall;
 
 impl Called<u64> for WriteCall {
-    ghost use Rattle.steps_events.specs.declared.event.Call.TheVariants as calls;
+    ghost use Rattle.model_events.specs.declared.event.Call.TheVariants as calls;
 
     ghost call = { calls.WriteLock };
 }
@@ -42,7 +42,7 @@ impl Called<u64> for WriteCall {
 pub struct UnlockCall;
 
 impl Called<u64> for UnlockCall {
-    ghost use Rattle.steps_events.specs.declared.event.Call.TheVariants as calls;
+    ghost use Rattle.model_events.specs.declared.event.Call.TheVariants as calls;
 
     ghost call = { calls.Unlock };
 }

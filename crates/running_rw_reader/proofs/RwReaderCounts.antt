@@ -1,13 +1,13 @@
 -- After each step of a reader-preferring lock its passes have as many holds as stand in the run: both are what the word says.
 use Rattle.running_rw_reader.specs.Names.{Word, Call, HoldKind, Intent, RwReaderPlace, rw_reader_table, View, Parties, Coming, IsStepAt, sum_of, GoesOnCounting, none_played, both_played, Free, Reading, Writing, Torn, read_holds, write_holds, Knows, Locks, same_nothing, tells_same_nothing, Holds, no_holds, both_holds, AreHoldsIn, RwReaderAgrees, rw_reader_model, rw_reader_lawful}
 use Rattle.running_rw_reader.proofs.Names.{◌≡◌, ℕ, ◌+◌, ◌-◌, ◌%◌, ◌^◌, ◌<◌, ◌==◌, Bool, true, false, List, [], ◌∷◌, Option, inl, inr, refl, ap, sym, subst, ◌∙◌, arith, eqb-true, eqb-false, comes_in, goes_out, takes_over, steps_down}
-use Rattle.steps_events.specs.declared.event.Act.{Act}
-use Rattle.steps_events.specs.declared.event.Event.{Event}
-use Rattle.steps_events.specs.Past.{Hold, holds_of, word_in, word_after}
-use Rattle.steps_events.specs.HoldCounts.{reads_in, writes_in}
-use Rattle.steps_events.specs.Laws.{IsTold}
-use Rattle.steps_rw_reader.specs.Law.{CountsHolds}
-use Rattle.playing.proofs.OfARun.{of_a_run}
+use Rattle.model_events.specs.declared.event.Act.{Act}
+use Rattle.model_events.specs.declared.event.Event.{Event}
+use Rattle.model_events.specs.Past.{Hold, holds_of, word_in, word_after}
+use Rattle.model_events.specs.HoldCounts.{reads_in, writes_in}
+use Rattle.model_events.specs.Laws.{IsTold}
+use Rattle.model_rw_reader.specs.Law.{CountsHolds}
+use Rattle.running_model.proofs.OfARun.{of_a_run}
 use Rattle.running_rw_reader.specs.RwReaderSteps.{read, no_more_read, written, Loaded, ReaderIn, ReaderOut, WriterIn, WriterOut, HoldsAreOfARun}
 
 -- the step on the word goes on counting so

@@ -4,8 +4,8 @@ use Rattle.running_rw_reader.proofs.Names.{◌≡◌, ℕ, ◌+◌, ◌-◌, ◌
 use mathlib.Core.Logic.{dite}
 use native.Mathlib.Decide.{ℕ_discrete}
 use prog.Atomic.{either}
-use Rattle.passes.proofs.Sums.{sum_of_two}
-use Rattle.passes.proofs.Updates.{by_look, by_exchange}
+use Rattle.running_passes.proofs.Sums.{sum_of_two}
+use Rattle.running_passes.proofs.Updates.{by_look, by_exchange}
 use Rattle.running_rw_reader.specs.RwReaderSteps.{NoHoldBesideAWriteHold, word_of, read, no_more_read, written, Loaded, ReaderIn, ReaderOut, WriterIn, WriterOut}
 
 -- the word is written, and is what all holds come to again

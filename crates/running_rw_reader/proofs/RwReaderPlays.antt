@@ -2,11 +2,11 @@
 use Rattle.running_rw_reader.specs.Names.{nat_lt, MatchBool, Word, Call, Answer, Then, HoldKind, Patience, Intent, RwReaderPlace, rw_reader_intent, rw_reader_model, Slot, Parties, all_of, IsNamed, Coming, Going, Beginning, Continuing, ComesBy, IsAt, IsHolding, Led, Leads, HasCalled, HasEnded, MayStep, Went, spun, IsRefused, IsGranted, MayTry, IsToWake}
 use Rattle.running_rw_reader.proofs.Names.{◌≡◌, ◌≢◌, ℕ, ◌+◌, ◌-◌, ◌^◌, ◌<◌, ◌≤◌, ◌==◌, Bool, true, false, cond, refl, sym, ap, subst, ◌∙◌, List, [], ◌∷◌, Option, Some, None, arith, ne_eqb, eqb_same}
 use Rattle.std.proofs.lemmas.Bool.Decides.{nat_tests}
-use Rattle.steps_events.specs.declared.event.Wake.{Wake}
-use Rattle.steps_events.specs.declared.row.After.{After}
-use Rattle.steps_events.specs.Rows.{within, refused}
-use Rattle.playing.specs.Turns.{IsOverAside}
-use Rattle.playing.proofs.Holding.{holding_told, holding_is}
+use Rattle.model_events.specs.declared.event.Wake.{Wake}
+use Rattle.model_events.specs.declared.row.After.{After}
+use Rattle.model_events.specs.Rows.{within, refused}
+use Rattle.running_model.specs.Turns.{IsOverAside}
+use Rattle.running_model.proofs.Holding.{holding_told, holding_is}
 use Rattle.running_rw_reader.specs.RwReaderParties.{has_hold, HasLookedOnce, HasLooked, Unlocks}
 
 abbrev Comes : Coming ℕ → Call ℕ → RwReaderPlace → List (Slot ℕ) → Parties ℕ → Type 0

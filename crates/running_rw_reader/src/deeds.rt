@@ -1,6 +1,6 @@
 //! The kinds of step at a reader-preferring lock, each with what it tells.
-use passes::Deed;
-use tallies::Held;
+use running_passes::Deed;
+use running_tallies::Held;
 
 /// A load.
 pub(crate) struct Look;

@@ -7,7 +7,7 @@
 #![tactic(auto)]
 
 ghost use Rattle.std.specs.Prelude.{◌≡◌};
-ghost use Rattle.playing.specs.Stages.{count_of};
+ghost use Rattle.running_model.specs.Stages.{count_of};
 ghost use Rattle.running_rw_reader.specs.RwReaderSteps.{HoldsAreOfARun, NoHoldBesideAWriteHold};
 
 mod deeds;
@@ -15,15 +15,15 @@ mod reading;
 mod steps;
 mod writing;
 
-use passes::{Origin, Pass, WaitResult};
-use playing::Stage;
+use model_events::WaitAction;
+use model_rw_reader::RwReaderPlace;
+use running_model::Stage;
+use running_passes::{Origin, Pass, WaitResult};
 use running_rw_hold::{RwHold, end_read_hold, end_write_hold, read_hold, write_hold};
+use running_tallies::{Held, PlayedRwReader, RwReaderScript, WaitWord};
 use std::alloc::{AllocError, Allocator, Global};
 use std::ops::Deref;
 use std::sync::Wait;
-use steps_events::WaitAction;
-use steps_rw_reader::RwReaderPlace;
-use tallies::{Held, PlayedRwReader, RwReaderScript, WaitWord};
 
 /// A lock of many readers or one writer. A reader enters wherever no writer is in, also where writers wait.
 #[derive(Drop)]
@@ -34,7 +34,7 @@ pub struct RwLockReaderPreference<A: Allocator = Global> {
 
 /// What the passes of a lock come from, at which they are split and joined.
 impl<A: Allocator> Deref for RwLockReaderPreference<A> {
-    ghost use Rattle.playing.specs.Stages.{origin};
+    ghost use Rattle.running_model.specs.Stages.{origin};
 
     type Target = Origin<(), PlayedRwReader, A>;
 
@@ -51,24 +51,24 @@ pub type RwReaderPass = Pass<PlayedRwReader>;
 
 impl<A: Allocator> RwLockReaderPreference<A> {
     ghost use Rattle.std.specs.Prelude.{IfOk, Some, None};
-    ghost use Rattle.playing.specs.Passes.{counts_of as tally_of, played};
+    ghost use Rattle.running_model.specs.Passes.{counts_of as tally_of, played};
     ghost use Rattle.std.specs.Borrow.{sem, u64, unit};
-    ghost use Rattle.steps_events.specs.declared.event.Call.TheVariants as calls;
-    ghost use Rattle.steps_events.specs.declared.event.Answer.TheVariants as answers;
-    ghost use Rattle.steps_events.specs.declared.hold.HoldKind.TheVariants as kinds;
-    ghost use Rattle.steps_rw_reader.specs.contracts.RwReaderPlace as place_row;
-    ghost use Rattle.passes.specs.Answers.{IfSuccess, IfInterrupted, IsSuccess, RestsIfInterrupted, MayAnswerAbort, HasAsked, HasWoken};
-    ghost use Rattle.passes.specs.Parts.{IsWhole};
-    ghost use Rattle.passes.specs.Passes.{view, part_of};
-    ghost use Rattle.passes.specs.Views.{first_view};
-    ghost use Rattle.passes.specs.contracts.pass.Pass.{the_row};
-    ghost use Rattle.playing.specs.contracts.played.Played as played_row;
-    ghost use Rattle.playing.specs.Slots.{no_parties};
-    ghost use Rattle.playing.specs.Counts.{WasRefused, HasGivenUp};
-    ghost use Rattle.tallies.specs.contracts.held.Held as held_row;
-    ghost use Rattle.tallies.specs.contracts.rw_reader.RwReaderScript as script_row;
+    ghost use Rattle.model_events.specs.declared.event.Call.TheVariants as calls;
+    ghost use Rattle.model_events.specs.declared.event.Answer.TheVariants as answers;
+    ghost use Rattle.model_events.specs.declared.hold.HoldKind.TheVariants as kinds;
+    ghost use Rattle.model_rw_reader.specs.contracts.RwReaderPlace as place_row;
+    ghost use Rattle.running_passes.specs.Answers.{IfSuccess, IfInterrupted, IsSuccess, RestsIfInterrupted, MayAnswerAbort, HasAsked, HasWoken};
+    ghost use Rattle.running_passes.specs.Parts.{IsWhole};
+    ghost use Rattle.running_passes.specs.Passes.{view, part_of};
+    ghost use Rattle.running_passes.specs.Views.{first_view};
+    ghost use Rattle.running_passes.specs.contracts.pass.Pass.{the_row};
+    ghost use Rattle.running_model.specs.contracts.played.Played as played_row;
+    ghost use Rattle.running_model.specs.Slots.{no_parties};
+    ghost use Rattle.running_model.specs.Counts.{WasRefused, HasGivenUp};
+    ghost use Rattle.running_tallies.specs.contracts.held.Held as held_row;
+    ghost use Rattle.running_tallies.specs.contracts.rw_reader.RwReaderScript as script_row;
     ghost use Rattle.running_rw_hold.specs.RwShown.{IsReadHold, IsWriteHold, pass_of, borrow_of};
-    ghost use Rattle.tallies.specs.RwReaderRule.{no_holds};
+    ghost use Rattle.running_tallies.specs.RwReaderRule.{no_holds};
     ghost use Rattle.running_rw_reader.specs.RwReaderSteps.{word_of};
     ghost use Rattle.running_rw_reader.specs.RwReaderShown.{IsRwReaderPass, IsAlone, IsShut, IsTaken, WasTurnedAway, HasEnteredToRead, HasEnteredToWrite, HasReadAtOnce, HasWrittenAtOnce, HasSeenTaken, HasUnlocked, HasPlayed, HasPlayedUnlock};
 

@@ -1,34 +1,34 @@
 //! What calls of a reader-preferring lock do for a reader.
 ghost use Rattle.std.specs.Prelude.{◌≡◌, IfOk};
-ghost use Rattle.playing.specs.Passes.{parties_of};
+ghost use Rattle.running_model.specs.Passes.{parties_of};
 
 use crate::{RwLockReaderPreference, RwReaderPass};
-use playing::turn::{Attempt, Called, Goes, Turn, Way, begin_held, begin_new, try_again};
+use model_events::WaitAction;
+use model_rw_reader::{RwReaderPlace, reader_enters};
+use running_model::turn::{Attempt, Called, Goes, Turn, Way, begin_held, begin_new, try_again};
 use running_rw_hold::{ReadCall, TryReadCall, UnlockCall};
+use running_tallies::{Held, RwReaderScript, WaitWord};
 use std::alloc::Allocator;
 use std::sync::Wait;
-use steps_events::WaitAction;
-use steps_rw_reader::{RwReaderPlace, reader_enters};
-use tallies::{Held, RwReaderScript, WaitWord};
 
 impl<A: Allocator> RwLockReaderPreference<A> {
     ghost use Rattle.std.specs.Prelude.{ℕ, true, false, ◌+◌, ◌<◌, List, [], ◌∷◌, Some, None, MatchBool, IfErr, is_ok};
-    ghost use Rattle.playing.specs.Passes.{counts_of as tally_of};
-    ghost use Rattle.steps_events.specs.declared.event.Word.TheVariants as words;
-    ghost use Rattle.steps_events.specs.declared.event.Call.TheVariants as calls;
-    ghost use Rattle.steps_events.specs.declared.event.Answer.TheVariants as answers;
-    ghost use Rattle.steps_events.specs.declared.hold.HoldKind.TheVariants as kinds;
-    ghost use Rattle.steps_events.specs.declared.patience.Patience.{Patience};
-    ghost use Rattle.steps_events.specs.declared.row.Intent.TheVariants as intents;
-    ghost use Rattle.steps_rw_reader.specs.declared.RwReaderPlace.TheVariants as places;
-    ghost use Rattle.tallies.specs.RwReaderScript.{rw_reader_model};
-    ghost use Rattle.passes.specs.Answers.{MayAnswerAbort, HasAsked, HasWoken};
-    ghost use Rattle.passes.specs.Parts.{IsWhole};
-    ghost use Rattle.passes.specs.Passes.{part_of, sights_of};
-    ghost use Rattle.playing.specs.Slots.{Slot, all_of};
-    ghost use Rattle.playing.specs.Plays.{Beginning, MayStep, Went};
-    ghost use Rattle.playing.specs.Counts.{HasSeen, HasOnlySeen, WasRefused, WasRefusedAt};
-    ghost use Rattle.playing.specs.Tries.{spun, MayTry, Tried, IsGranted, IsRefused, HasGivenUp as HasEndedRefused};
+    ghost use Rattle.running_model.specs.Passes.{counts_of as tally_of};
+    ghost use Rattle.model_events.specs.declared.event.Word.TheVariants as words;
+    ghost use Rattle.model_events.specs.declared.event.Call.TheVariants as calls;
+    ghost use Rattle.model_events.specs.declared.event.Answer.TheVariants as answers;
+    ghost use Rattle.model_events.specs.declared.hold.HoldKind.TheVariants as kinds;
+    ghost use Rattle.model_events.specs.declared.patience.Patience.{Patience};
+    ghost use Rattle.model_events.specs.declared.row.Intent.TheVariants as intents;
+    ghost use Rattle.model_rw_reader.specs.declared.RwReaderPlace.TheVariants as places;
+    ghost use Rattle.running_tallies.specs.RwReaderScript.{rw_reader_model};
+    ghost use Rattle.running_passes.specs.Answers.{MayAnswerAbort, HasAsked, HasWoken};
+    ghost use Rattle.running_passes.specs.Parts.{IsWhole};
+    ghost use Rattle.running_passes.specs.Passes.{part_of, sights_of};
+    ghost use Rattle.running_model.specs.Slots.{Slot, all_of};
+    ghost use Rattle.running_model.specs.Plays.{Beginning, MayStep, Went};
+    ghost use Rattle.running_model.specs.Counts.{HasSeen, HasOnlySeen, WasRefused, WasRefusedAt};
+    ghost use Rattle.running_model.specs.Tries.{spun, MayTry, Tried, IsGranted, IsRefused, HasGivenUp as HasEndedRefused};
     ghost use Rattle.running_rw_reader.specs.RwReaderParties.{has_hold, HasLooked, Unlocks};
     ghost use Rattle.running_rw_reader.specs.RwReaderSteps.{word_of};
     ghost use Rattle.running_rw_reader.specs.RwReaderShown.{IsRwReaderPass, IsAlone, IsShut, reads_of, WasTurnedAway, HasEnteredToRead, HasReadAtOnce, HasSeenLast, HasLeftReading, HasPlayed};
@@ -250,15 +250,15 @@ struct Reader<'l, A: Allocator> {
 impl<A: Allocator> Attempt<(), RwReaderScript, RwReaderPlace, u64, Held<()>> for Reader<'_, A> {
     ghost use Rattle.std.specs.Prelude.{◌+◌, Some, IfErr};
     ghost use Rattle.std.proofs.Common.{refl};
-    ghost use Rattle.steps_events.specs.declared.event.Call.TheVariants as calls;
-    ghost use Rattle.steps_events.specs.declared.hold.HoldKind.TheVariants as kinds;
-    ghost use Rattle.steps_rw_reader.specs.declared.RwReaderPlace.TheVariants as places;
-    ghost use Rattle.passes.specs.Parts.{IsWhole};
-    ghost use Rattle.passes.specs.Passes.{object_of, part_of, sights_of};
-    ghost use Rattle.playing.specs.Counts.{HasMoved, WasRefusedAt};
-    ghost use Rattle.playing.specs.Tries.{MayTry, Tried, IsGranted, IsRefused};
-    ghost use Rattle.tallies.specs.RwReaderScript.{rw_reader_model};
-    ghost use Rattle.playing.specs.Stages.{id_of};
+    ghost use Rattle.model_events.specs.declared.event.Call.TheVariants as calls;
+    ghost use Rattle.model_events.specs.declared.hold.HoldKind.TheVariants as kinds;
+    ghost use Rattle.model_rw_reader.specs.declared.RwReaderPlace.TheVariants as places;
+    ghost use Rattle.running_passes.specs.Parts.{IsWhole};
+    ghost use Rattle.running_passes.specs.Passes.{object_of, part_of, sights_of};
+    ghost use Rattle.running_model.specs.Counts.{HasMoved, WasRefusedAt};
+    ghost use Rattle.running_model.specs.Tries.{MayTry, Tried, IsGranted, IsRefused};
+    ghost use Rattle.running_tallies.specs.RwReaderScript.{rw_reader_model};
+    ghost use Rattle.running_model.specs.Stages.{id_of};
     ghost use Rattle.running_rw_reader.specs.RwReaderShown.{IsShut, EntersToRead};
 
     ghost object = { λ r. id_of r.lock.now.stage };

@@ -1,28 +1,28 @@
 //! What calls of a reader-preferring lock do for a writer.
 ghost use Rattle.std.specs.Prelude.{◌≡◌, IfOk};
-ghost use Rattle.playing.specs.Passes.{parties_of};
+ghost use Rattle.running_model.specs.Passes.{parties_of};
 
 use crate::{RwLockReaderPreference, RwReaderPass};
-use playing::turn::{Attempt, Called, Goes, Turn, Way, begin_held, begin_new, try_again};
+use model_events::WaitAction;
+use model_rw_reader::RwReaderPlace;
+use running_model::turn::{Attempt, Called, Goes, Turn, Way, begin_held, begin_new, try_again};
 use running_rw_hold::{TryWriteCall, UnlockCall, WriteCall};
+use running_tallies::{Held, RwReaderScript, WaitWord};
 use std::alloc::Allocator;
 use std::sync::Wait;
-use steps_events::WaitAction;
-use steps_rw_reader::RwReaderPlace;
-use tallies::{Held, RwReaderScript, WaitWord};
 
 impl<A: Allocator> RwLockReaderPreference<A> {
     ghost use Rattle.std.specs.Prelude.{ℕ, ◌-◌, ◌^◌, true, false, ◌≢◌, [], ◌∷◌, Some, None, MatchBool, IfErr, is_ok};
-    ghost use Rattle.steps_events.specs.declared.event.Word.TheVariants as words;
-    ghost use Rattle.steps_events.specs.declared.event.Call.TheVariants as calls;
-    ghost use Rattle.steps_events.specs.declared.event.Answer.TheVariants as answers;
-    ghost use Rattle.steps_events.specs.declared.hold.HoldKind.TheVariants as kinds;
-    ghost use Rattle.steps_events.specs.declared.row.Intent.TheVariants as intents;
-    ghost use Rattle.tallies.specs.RwReaderScript.{rw_reader_model};
-    ghost use Rattle.passes.specs.Answers.{MayAnswerAbort, HasWoken};
-    ghost use Rattle.passes.specs.Passes.{sights_of};
-    ghost use Rattle.playing.specs.Plays.{Beginning, MayStep, Went};
-    ghost use Rattle.playing.specs.Counts.{HasGivenUp};
+    ghost use Rattle.model_events.specs.declared.event.Word.TheVariants as words;
+    ghost use Rattle.model_events.specs.declared.event.Call.TheVariants as calls;
+    ghost use Rattle.model_events.specs.declared.event.Answer.TheVariants as answers;
+    ghost use Rattle.model_events.specs.declared.hold.HoldKind.TheVariants as kinds;
+    ghost use Rattle.model_events.specs.declared.row.Intent.TheVariants as intents;
+    ghost use Rattle.running_tallies.specs.RwReaderScript.{rw_reader_model};
+    ghost use Rattle.running_passes.specs.Answers.{MayAnswerAbort, HasWoken};
+    ghost use Rattle.running_passes.specs.Passes.{sights_of};
+    ghost use Rattle.running_model.specs.Plays.{Beginning, MayStep, Went};
+    ghost use Rattle.running_model.specs.Counts.{HasGivenUp};
     ghost use Rattle.running_rw_reader.specs.RwReaderParties.{has_hold, Unlocks};
     ghost use Rattle.running_rw_reader.specs.RwReaderShown.{IsRwReaderPass, IsAlone, IsTaken, writes_of, HasEnteredToWrite, HasWrittenAtOnce, HasSeenTaken, HasLeftWriting, HasPlayed};
 
@@ -156,14 +156,14 @@ struct Writer<'l, A: Allocator> {
 impl<A: Allocator> Attempt<(), RwReaderScript, RwReaderPlace, u64, Held<()>> for Writer<'_, A> {
     ghost use Rattle.std.specs.Prelude.{◌+◌, Some, IfErr};
     ghost use Rattle.std.proofs.Common.{refl};
-    ghost use Rattle.steps_events.specs.declared.event.Call.TheVariants as calls;
-    ghost use Rattle.steps_events.specs.declared.hold.HoldKind.TheVariants as kinds;
-    ghost use Rattle.steps_rw_reader.specs.declared.RwReaderPlace.TheVariants as places;
-    ghost use Rattle.passes.specs.Passes.{object_of, sights_of};
-    ghost use Rattle.playing.specs.Counts.{HasMoved, WasRefusedAt};
-    ghost use Rattle.playing.specs.Tries.{MayTry, Tried, IsGranted, IsRefused};
-    ghost use Rattle.tallies.specs.RwReaderScript.{rw_reader_model};
-    ghost use Rattle.playing.specs.Stages.{id_of};
+    ghost use Rattle.model_events.specs.declared.event.Call.TheVariants as calls;
+    ghost use Rattle.model_events.specs.declared.hold.HoldKind.TheVariants as kinds;
+    ghost use Rattle.model_rw_reader.specs.declared.RwReaderPlace.TheVariants as places;
+    ghost use Rattle.running_passes.specs.Passes.{object_of, sights_of};
+    ghost use Rattle.running_model.specs.Counts.{HasMoved, WasRefusedAt};
+    ghost use Rattle.running_model.specs.Tries.{MayTry, Tried, IsGranted, IsRefused};
+    ghost use Rattle.running_tallies.specs.RwReaderScript.{rw_reader_model};
+    ghost use Rattle.running_model.specs.Stages.{id_of};
     ghost use Rattle.running_rw_reader.specs.RwReaderShown.{IsTaken, EntersToWrite};
 
     ghost object = { λ w. id_of w.lock.now.stage };

@@ -5,11 +5,11 @@ use Rattle.std.specs.Fn.{Once, FnOnceReturns, FnOnceReturnsAtMut}
 use Rattle.std.specs.Borrow.{MutBor}
 use Rattle.std.specs.Prelude.{Some}
 use Rattle.std.specs.Sync.RwLock.{read_guard_value, write_guard_value}
-use Rattle.steps_events.specs.declared.event.Call.TheVariants as calls
-use Rattle.steps_events.specs.declared.event.Answer.TheVariants as answers
-use Rattle.steps_events.specs.declared.hold.HoldKind.{HoldKind}
-use Rattle.steps_events.specs.declared.hold.HoldKind.TheVariants as kinds
-use Rattle.playing.specs.Passes.{parties_of}
+use Rattle.model_events.specs.declared.event.Call.TheVariants as calls
+use Rattle.model_events.specs.declared.event.Answer.TheVariants as answers
+use Rattle.model_events.specs.declared.hold.HoldKind.{HoldKind}
+use Rattle.model_events.specs.declared.hold.HoldKind.TheVariants as kinds
+use Rattle.running_model.specs.Passes.{parties_of}
 use Rattle.running_rw_writer.specs.declared.RwLockWriterPreference.{RwLockWriterPreference}
 use Rattle.running_rw_writer.specs.declared.pass.RwWriterPass.{RwWriterPass}
 use Rattle.running_rw_writer.specs.RwWriterParties.{Unlocks, unlocked}

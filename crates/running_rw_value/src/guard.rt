@@ -1,7 +1,7 @@
 //! What a reader has, and what a writer has.
 ghost use Rattle.std.specs.Prelude.{◌≡◌, ◌<◌, true};
-ghost use Rattle.steps_events.specs.declared.hold.HoldKind.TheVariants as kinds;
-ghost use Rattle.playing.specs.Passes.{parties_of};
+ghost use Rattle.model_events.specs.declared.hold.HoldKind.TheVariants as kinds;
+ghost use Rattle.running_model.specs.Passes.{parties_of};
 ghost use Rattle.running_rw_writer.specs.RwWriterParties.{has_hold};
 ghost use Rattle.running_rw_writer.specs.RwWriterShown.{IsRwWriterPass, pass_in, reads_of, writes_of};
 

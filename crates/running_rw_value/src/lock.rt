@@ -1,16 +1,16 @@
 //! The lock itself.
 ghost use Rattle.std.specs.Prelude.{◌≡◌, ◌<◌, ◌^◌, IfOk, IfErr, Some, None, true, false, MatchBool};
 ghost use Rattle.std.specs.Borrow.{sem};
-ghost use Rattle.steps_events.specs.declared.event.Call.TheVariants as calls;
-ghost use Rattle.steps_events.specs.declared.event.Answer.TheVariants as answers;
-ghost use Rattle.steps_events.specs.declared.hold.HoldKind.TheVariants as kinds;
-ghost use Rattle.passes.specs.Answers.{IfSuccess, IfInterrupted, IsSuccess, RestsIfInterrupted, MayAnswerAbort, HasAsked, HasWoken};
-ghost use Rattle.passes.specs.Parts.{IsWhole};
-ghost use Rattle.passes.specs.Views.{first_view};
-ghost use Rattle.playing.specs.Slots.{no_parties};
-ghost use Rattle.playing.specs.Passes.{played, parties_of};
-ghost use Rattle.playing.specs.Counts.{WasRefused};
-ghost use Rattle.tallies.specs.RwWriterRule.{nothing_marked};
+ghost use Rattle.model_events.specs.declared.event.Call.TheVariants as calls;
+ghost use Rattle.model_events.specs.declared.event.Answer.TheVariants as answers;
+ghost use Rattle.model_events.specs.declared.hold.HoldKind.TheVariants as kinds;
+ghost use Rattle.running_passes.specs.Answers.{IfSuccess, IfInterrupted, IsSuccess, RestsIfInterrupted, MayAnswerAbort, HasAsked, HasWoken};
+ghost use Rattle.running_passes.specs.Parts.{IsWhole};
+ghost use Rattle.running_passes.specs.Views.{first_view};
+ghost use Rattle.running_model.specs.Slots.{no_parties};
+ghost use Rattle.running_model.specs.Passes.{played, parties_of};
+ghost use Rattle.running_model.specs.Counts.{WasRefused};
+ghost use Rattle.running_tallies.specs.RwWriterRule.{nothing_marked};
 ghost use Rattle.running_rw_hold.specs.RwShown.{IsReadHold, IsWriteHold, pass_of, borrow_of};
 ghost use Rattle.running_rw_writer.specs.contracts.pass.RwWriterPass.{the_row};
 ghost use Rattle.running_rw_writer.specs.RwWriterParties.{has_hold};
@@ -18,14 +18,14 @@ ghost use Rattle.running_rw_writer.specs.RwWriterSteps.{IsMarked};
 ghost use Rattle.running_rw_writer.specs.RwWriterShown.{IsRwWriterPass, IsAlone, IsShut, pass_in, known_by, part_in, sights_in, reads_of, writes_of, HasStayed, HasEnteredToRead, HasEnteredToWrite, HasReadAtOnce, HasWrittenAtOnce, HasSeenTaken, WasTurnedAway, HasGivenUpWriting, HasLeftReading, HasLeftWriting, HasPlayed, HasPlayedGivingUp};
 
 use crate::guard::{ReadGuard, WriteGuard, Writing};
-use passes::WaitResult;
+use model_events::WaitAction;
+use running_passes::WaitResult;
 use running_rw_hold::{RwHold, end_read_hold, end_write_hold, read_hold, write_hold};
 use running_rw_writer::{RwLockWriterPreference, RwWriterPass};
+use running_tallies::WaitWord;
 use std::alloc::{AllocError, Allocator, Global};
 use std::sync;
 use std::sync::Wait;
-use steps_events::WaitAction;
-use tallies::WaitWord;
 
 /// A lock that guards a value, for many readers or one writer. Where a writer waits no reader enters until it has come in or given up.
 #[derive(Drop)]

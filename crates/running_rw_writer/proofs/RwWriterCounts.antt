@@ -1,14 +1,14 @@
 -- After each step of a writer-preferring lock its passes were granted as often as calls were in the run.
 use Rattle.running_rw_writer.specs.Names.{Word, Call, HoldKind, Intent, RwWriterPlace, rw_writer_grant, rw_writer_table, Sights, seen_instead, View, Parties, is_kind, Coming, IsStepAt, sum_of, GoesOnCounting, none_played, both_played, MarkedHolds, both_marked, AreGrantsByKindIn, RwWriterAgrees, nothing_marked, rw_writer_model}
 use Rattle.running_rw_writer.proofs.Names.{◌≡◌, ◌≢◌, ℕ, ◌+◌, ◌-◌, ◌%◌, ◌^◌, ◌<◌, ◌==◌, Bool, true, false, cond, List, [], ◌∷◌, Option, Some, None, inl, inr, refl, ap, sym, subst, ◌∙◌, arith, eqb-true, eqb-false, IsExchange, IsWriterIntent}
-use Rattle.steps_events.specs.declared.event.Act.{Act}
-use Rattle.steps_events.specs.declared.event.Event.{Event}
-use Rattle.steps_events.specs.Rows.{carried_out}
-use Rattle.steps_events.specs.Past.{PendingCall, call_of, hold_of}
-use Rattle.steps_events.specs.Integers.{u64_arithmetic}
-use Rattle.steps_rw_writer.proofs.PlaceLaws.{writer_intent, here}
-use Rattle.playing.specs.Sums.{grants_by, no_kind, next_grants}
-use Rattle.playing.proofs.OfARun.{of_a_run}
+use Rattle.model_events.specs.declared.event.Act.{Act}
+use Rattle.model_events.specs.declared.event.Event.{Event}
+use Rattle.model_events.specs.Rows.{carried_out}
+use Rattle.model_events.specs.Past.{PendingCall, call_of, hold_of}
+use Rattle.model_events.specs.Integers.{u64_arithmetic}
+use Rattle.model_rw_writer.proofs.PlaceLaws.{writer_intent, here}
+use Rattle.running_model.specs.Sums.{grants_by, no_kind, next_grants}
+use Rattle.running_model.proofs.OfARun.{of_a_run}
 use Rattle.running_rw_writer.specs.RwWriterSteps.{IsMarked, Loaded, LoadedToWrite, IsSeenByWriter, ReaderIn, ReaderOut, WriterIn, WriterOut, SetsMark, TakesMark, Unchanged, GrantsAreOfARun}
 
 -- the step on the word at this index goes on counting so

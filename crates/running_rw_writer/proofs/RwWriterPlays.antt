@@ -2,9 +2,9 @@
 use Rattle.running_rw_writer.specs.Names.{nat_lt, MatchBool, WaitAction, Word, Call, Answer, HoldKind, Patience, Intent, After, Leaver, RwWriterPlace, rw_writer_intent, rw_writer_grant, lets_readers_in, lets_writer_in, lets_mark, is_marked, is_blocked, try_read_look, read_look, spins, marks_or_spins, unmarks_or_leaves, write_refused, write_look, last_look, released, woken_all, rw_writer_model, Slot, Parties, all_of, IsNamed, IsStepOn, Coming, Going, Beginning, Continuing, Answered, ComesBy, IsHolding, Led, HasCalled, HasEnded, spun, IsRefused, IsGranted, MayTry, StandsToWait, IsToWake, rw_writer_handed}
 use Rattle.running_rw_writer.proofs.Names.{eqb-false, eqb-true, ◌≡◌, ◌≢◌, ℕ, ◌+◌, ◌-◌, ◌%◌, ◌^◌, ◌<◌, ◌≤◌, ◌==◌, Bool, true, false, cond, refl, sym, subst, ◌∙◌, List, [], ◌∷◌, Option, Some, None, arith, ne_eqb, eqb_same, is_marking, is_over}
 use Rattle.std.proofs.lemmas.Bool.Decides.{nat_tests}
-use Rattle.steps_events.specs.declared.event.Wake.{Wake}
-use Rattle.playing.specs.Turns.{IsToWakeAgain, IsOver, IsOverAside, IsOverAfterTwo}
-use Rattle.playing.proofs.Holding.{holding_told, holding_is}
+use Rattle.model_events.specs.declared.event.Wake.{Wake}
+use Rattle.running_model.specs.Turns.{IsToWakeAgain, IsOver, IsOverAside, IsOverAfterTwo}
+use Rattle.running_model.proofs.Holding.{holding_told, holding_is}
 use Rattle.running_rw_writer.specs.RwWriterSteps.{IsMarked}
 use Rattle.running_rw_writer.specs.RwWriterShown.{IsShut}
 use Rattle.running_rw_writer.specs.RwWriterParties.{has_hold, TableHas, TableLed, CallGoes, WriteGoes, GoesFromTo, SomeCallGoes, ComesToWrite, ComesToGiveUp, WriteIsGranted, IsToWakeBoth, Unlocks, unlocked}

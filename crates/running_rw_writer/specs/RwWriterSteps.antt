@@ -3,9 +3,9 @@ use Rattle.running_rw_writer.specs.Names.{◌≡◌, ◌≢◌, ℕ, ◌+◌, �
 use mathlib.Core.Option.{some}
 use lib.ListN.{get_elem?}
 use Rattle.atomic_table.specs.Table.{State}
-use Rattle.playing.specs.declared.played.Played.{Played}
-use Rattle.tallies.specs.declared.held.Held.TheVariants.{Writing}
-use Rattle.tallies.specs.declared.rw_writer.RwWriterScript.{RwWriterScript}
+use Rattle.running_model.specs.declared.played.Played.{Played}
+use Rattle.running_tallies.specs.declared.held.Held.TheVariants.{Writing}
+use Rattle.running_tallies.specs.declared.rw_writer.RwWriterScript.{RwWriterScript}
 
 -- what a pass of a writer-preferring lock is in its model, and counts beside
 abbrev pub PlayedRwWriter : Type 0

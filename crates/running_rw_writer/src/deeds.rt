@@ -1,6 +1,6 @@
 //! The kinds of step at a writer-preferring lock, each with what it tells.
-use passes::Deed;
-use tallies::MarkedHolds;
+use running_passes::Deed;
+use running_tallies::MarkedHolds;
 
 /// A load by a reader.
 pub(crate) struct Look;

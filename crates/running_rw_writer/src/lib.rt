@@ -8,7 +8,7 @@
 #![tactic(auto)]
 
 ghost use Rattle.std.specs.Prelude.{◌≡◌};
-ghost use Rattle.playing.specs.Stages.{count_of};
+ghost use Rattle.running_model.specs.Stages.{count_of};
 ghost use Rattle.running_rw_writer.specs.RwWriterSteps.{GrantsAreOfARun, NoHoldBesideTheWriter, NoMarkWithoutAFlag};
 
 mod deeds;
@@ -17,15 +17,15 @@ mod reading;
 mod steps;
 mod writing;
 
+use model_events::WaitAction;
+use model_rw_writer::RwWriterPlace;
 pub use pass::RwWriterPass;
-use passes::WaitResult;
-use playing::Stage;
+use running_model::Stage;
+use running_passes::WaitResult;
 use running_rw_hold::{RwHold, end_read_hold, end_write_hold, read_hold, write_hold};
+use running_tallies::{MarkedHolds, RwWriterScript, WaitWord};
 use std::alloc::{AllocError, Allocator, Global};
 use std::sync::Wait;
-use steps_events::WaitAction;
-use steps_rw_writer::RwWriterPlace;
-use tallies::{MarkedHolds, RwWriterScript, WaitWord};
 
 /// A lock of many readers or one writer. Where a writer waits it sets a mark, and no reader enters until the mark is taken away.
 #[derive(Drop)]
@@ -42,17 +42,17 @@ const COUNTER: usize = 1;
 impl<A: Allocator> RwLockWriterPreference<A> {
     ghost use Rattle.std.specs.Borrow.{sem};
     ghost use Rattle.std.specs.Prelude.{◌^◌, ◌<◌, IfOk, Some, None};
-    ghost use Rattle.steps_events.specs.declared.event.Call.TheVariants as calls;
-    ghost use Rattle.steps_events.specs.declared.event.Answer.TheVariants as answers;
-    ghost use Rattle.steps_events.specs.declared.hold.HoldKind.TheVariants as kinds;
-    ghost use Rattle.passes.specs.Answers.{IfSuccess, IfInterrupted, IsSuccess, RestsIfInterrupted, MayAnswerAbort, HasAsked, HasWoken};
-    ghost use Rattle.passes.specs.Parts.{IsWhole};
-    ghost use Rattle.playing.specs.Slots.{no_parties};
-    ghost use Rattle.playing.specs.Passes.{played, counts_of as tally_of};
-    ghost use Rattle.playing.specs.Counts.{WasRefused};
-    ghost use Rattle.passes.specs.Views.{first_view};
+    ghost use Rattle.model_events.specs.declared.event.Call.TheVariants as calls;
+    ghost use Rattle.model_events.specs.declared.event.Answer.TheVariants as answers;
+    ghost use Rattle.model_events.specs.declared.hold.HoldKind.TheVariants as kinds;
+    ghost use Rattle.running_passes.specs.Answers.{IfSuccess, IfInterrupted, IsSuccess, RestsIfInterrupted, MayAnswerAbort, HasAsked, HasWoken};
+    ghost use Rattle.running_passes.specs.Parts.{IsWhole};
+    ghost use Rattle.running_model.specs.Slots.{no_parties};
+    ghost use Rattle.running_model.specs.Passes.{played, counts_of as tally_of};
+    ghost use Rattle.running_model.specs.Counts.{WasRefused};
+    ghost use Rattle.running_passes.specs.Views.{first_view};
     ghost use Rattle.running_rw_writer.specs.contracts.pass.RwWriterPass.{the_row};
-    ghost use Rattle.tallies.specs.RwWriterRule.{nothing_marked};
+    ghost use Rattle.running_tallies.specs.RwWriterRule.{nothing_marked};
     ghost use Rattle.running_rw_hold.specs.RwShown.{IsReadHold, IsWriteHold, pass_of, borrow_of};
     ghost use Rattle.running_rw_writer.specs.RwWriterSteps.{IsMarked, word_of};
     ghost use Rattle.running_rw_writer.specs.RwWriterShown.{IsRwWriterPass, IsAlone, IsShut, pass_in, known_by, part_in, sights_in, HasEnteredToRead, HasEnteredToWrite, HasReadAtOnce, HasWrittenAtOnce, HasSeenTaken, HasGivenUpWriting, HasUnlocked, WasTurnedAway, HasPlayed, HasPlayedGivingUp, HasPlayedUnlock};
@@ -165,10 +165,10 @@ impl<A: Allocator> RwLockWriterPreference<A> {
     }
 
     /// Locks for writing: looks, and exchanges 0 or 1 for 2^64 - 1. Where others hold the lock it sets the mark, so that no reader enters
-    /// any more, and looks up to 10000 times more. Then it loads the counter and looks once more; where the lock is still held or marked
-    /// it calls the wait closure, with the counter's word and the count loaded, and looks again. `Interrupted` where it could not enter
-    /// after the closure had answered `Abort`: then it has taken the mark away, where one stood, added 1 to the counter, and called
-    /// `wake_one` with the counter and `wake_all` with the lock's word; this call holds nothing, and no mark of its own is left.
+    /// any more, and looks up to 10000 times more. Then it loads the counter and looks once more; where there still is a writer, or the mark
+    /// beside readers, it calls the wait closure, with the counter's word and the count loaded, and looks again. `Interrupted` where it
+    /// could not enter after the closure had answered `Abort`: then it has taken the mark away, where one stood, added 1 to the counter, and
+    /// called `wake_one` with the counter and `wake_all` with the lock's word; this call holds nothing, and no mark of its own is left.
     #[inline(always)]
     pub fn write_lock<
         'p,

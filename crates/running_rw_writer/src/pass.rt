@@ -1,12 +1,12 @@
 //! The pass of a writer-preferring lock.
 ghost use Rattle.std.specs.Prelude.{◌≡◌, IfOk};
-ghost use Rattle.playing.specs.Passes.{parties_of, counts_of};
+ghost use Rattle.running_model.specs.Passes.{parties_of, counts_of};
 
 use crate::RwLockWriterPreference;
-use passes::Pass;
+use running_passes::Pass;
 use running_rw_hold::RwPass;
+use running_tallies::PlayedRwWriter;
 use std::alloc::Allocator;
-use tallies::PlayedRwWriter;
 
 /// The right to call a writer-preferring lock, and what its owner did and saw there. No mark of its owner stands: its flag is down.
 #[derive(Drop)]
@@ -17,8 +17,8 @@ pub struct RwWriterPass {
 
 // What its holds come to, and which of them its party has.
 impl RwPass for RwWriterPass {
-    ghost use Rattle.steps_events.specs.declared.hold.HoldKind.TheVariants as kinds;
-    ghost use Rattle.tallies.specs.Held.{read_holds, write_holds};
+    ghost use Rattle.model_events.specs.declared.hold.HoldKind.TheVariants as kinds;
+    ghost use Rattle.running_tallies.specs.Held.{read_holds, write_holds};
     ghost use Rattle.running_rw_writer.specs.RwWriterParties.{has_hold};
 
     ghost reads = { λ p. read_holds (counts_of p.pass).held };
@@ -32,11 +32,11 @@ impl RwPass for RwWriterPass {
 
 impl RwWriterPass {
     ghost use Rattle.std.specs.Prelude.{true, is_ok};
-    ghost use Rattle.passes.specs.declared.part.Part.{Part};
-    ghost use Rattle.passes.specs.Parts.{half, IsAgain, IsSamePart, AddUp};
-    ghost use Rattle.passes.specs.Views.{left_view, right_view, joined_view};
-    ghost use Rattle.playing.specs.Passes.{none_played, both_played};
-    ghost use Rattle.tallies.specs.RwWriterRule.{nothing_marked, both_marked};
+    ghost use Rattle.running_passes.specs.declared.part.Part.{Part};
+    ghost use Rattle.running_passes.specs.Parts.{half, IsAgain, IsSamePart, AddUp};
+    ghost use Rattle.running_passes.specs.Views.{left_view, right_view, joined_view};
+    ghost use Rattle.running_model.specs.Passes.{none_played, both_played};
+    ghost use Rattle.running_tallies.specs.RwWriterRule.{nothing_marked, both_marked};
     ghost use Rattle.running_rw_writer.specs.RwWriterShown.{IsRwWriterPass, known_by, part_in};
 
     /// Two passes of the same lock. What they counted adds up to what this one had counted, and both know what it knew; they weigh

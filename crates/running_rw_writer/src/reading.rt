@@ -1,34 +1,34 @@
 //! What calls of a writer-preferring lock do for a reader.
 ghost use Rattle.std.specs.Prelude.{◌≡◌, IfOk};
-ghost use Rattle.playing.specs.Passes.{parties_of};
+ghost use Rattle.running_model.specs.Passes.{parties_of};
 
 use crate::steps::PlayedPass;
 use crate::{RwLockWriterPreference, RwWriterPass};
-use playing::turn::{Attempt, Called, Goes, Turn, Way, begin_held, begin_new, try_again};
+use model_events::WaitAction;
+use model_rw_writer::{RwWriterPlace, reader_enters};
+use running_model::turn::{Attempt, Called, Goes, Turn, Way, begin_held, begin_new, try_again};
 use running_rw_hold::{ReadCall, TryReadCall, UnlockCall};
+use running_tallies::{MarkedHolds, RwWriterScript, WaitWord};
 use std::alloc::Allocator;
 use std::sync::Wait;
-use steps_events::WaitAction;
-use steps_rw_writer::{RwWriterPlace, reader_enters};
-use tallies::{MarkedHolds, RwWriterScript, WaitWord};
 
 impl<A: Allocator> RwLockWriterPreference<A> {
     ghost use Rattle.std.specs.Prelude.{true, false, ◌+◌, ◌<◌, MatchBool, IfErr, is_ok, List, Some, None, ℕ};
-    ghost use Rattle.steps_events.specs.declared.event.Call.TheVariants as calls;
-    ghost use Rattle.steps_events.specs.declared.event.Answer.TheVariants as answers;
-    ghost use Rattle.steps_events.specs.declared.hold.HoldKind.TheVariants as kinds;
-    ghost use Rattle.steps_events.specs.declared.patience.Patience.{Patience};
-    ghost use Rattle.steps_events.specs.declared.row.Intent.TheVariants as intents;
-    ghost use Rattle.steps_rw_writer.specs.declared.RwWriterPlace.TheVariants as places;
-    ghost use Rattle.tallies.specs.RwWriterScript.{rw_writer_model};
-    ghost use Rattle.passes.specs.Answers.{MayAnswerAbort, HasAsked, HasWoken};
-    ghost use Rattle.passes.specs.Passes.{part_of, sights_of};
-    ghost use Rattle.playing.specs.Passes.{counts_of as tally_of, counted};
-    ghost use Rattle.playing.specs.Counts.{HasSeen, HasOnlySeen, WasRefused, WasRefusedAt};
-    ghost use Rattle.playing.specs.Slots.{Slot, all_of};
-    ghost use Rattle.playing.specs.Plays.{Beginning};
-    ghost use Rattle.playing.specs.Stages.{IsPassOf};
-    ghost use Rattle.playing.specs.Tries.{spun, MayTry, Tried, IsGranted, IsRefused, HasGivenUp as HasEndedRefused};
+    ghost use Rattle.model_events.specs.declared.event.Call.TheVariants as calls;
+    ghost use Rattle.model_events.specs.declared.event.Answer.TheVariants as answers;
+    ghost use Rattle.model_events.specs.declared.hold.HoldKind.TheVariants as kinds;
+    ghost use Rattle.model_events.specs.declared.patience.Patience.{Patience};
+    ghost use Rattle.model_events.specs.declared.row.Intent.TheVariants as intents;
+    ghost use Rattle.model_rw_writer.specs.declared.RwWriterPlace.TheVariants as places;
+    ghost use Rattle.running_tallies.specs.RwWriterScript.{rw_writer_model};
+    ghost use Rattle.running_passes.specs.Answers.{MayAnswerAbort, HasAsked, HasWoken};
+    ghost use Rattle.running_passes.specs.Passes.{part_of, sights_of};
+    ghost use Rattle.running_model.specs.Passes.{counts_of as tally_of, counted};
+    ghost use Rattle.running_model.specs.Counts.{HasSeen, HasOnlySeen, WasRefused, WasRefusedAt};
+    ghost use Rattle.running_model.specs.Slots.{Slot, all_of};
+    ghost use Rattle.running_model.specs.Plays.{Beginning};
+    ghost use Rattle.running_model.specs.Stages.{IsPassOf};
+    ghost use Rattle.running_model.specs.Tries.{spun, MayTry, Tried, IsGranted, IsRefused, HasGivenUp as HasEndedRefused};
     ghost use Rattle.running_rw_writer.specs.RwWriterParties.{has_hold, HasLooked, TableHas, TableLed, Unlocks, unlocked};
     ghost use Rattle.running_rw_writer.specs.RwWriterSteps.{IsOnly, SaysAlone, word_of};
     ghost use Rattle.running_rw_writer.specs.RwWriterShown.{IsRwWriterPass, IsAloneWithin, IsShut, pass_in, sights_in, reads_of, HasEnteredToRead, HasReadAtOnce, HasLeftReading, WasTurnedAway, HasSeenLast, HasPlayed};
@@ -272,15 +272,15 @@ struct Reader<'l, A: Allocator> {
 impl<A: Allocator> Attempt<(), RwWriterScript, RwWriterPlace, u64, MarkedHolds> for Reader<'_, A> {
     ghost use Rattle.std.specs.Prelude.{◌+◌, Some, IfErr};
     ghost use Rattle.std.proofs.Common.{refl};
-    ghost use Rattle.steps_events.specs.declared.event.Call.TheVariants as calls;
-    ghost use Rattle.steps_events.specs.declared.hold.HoldKind.TheVariants as kinds;
-    ghost use Rattle.steps_rw_writer.specs.declared.RwWriterPlace.TheVariants as places;
-    ghost use Rattle.passes.specs.Passes.{object_of, part_of, sights_of};
-    ghost use Rattle.playing.specs.Passes.{counts_of as tally_of};
-    ghost use Rattle.playing.specs.Counts.{HasMoved, WasRefusedAt};
-    ghost use Rattle.playing.specs.Tries.{MayTry, Tried, IsGranted, IsRefused};
-    ghost use Rattle.tallies.specs.RwWriterScript.{rw_writer_model};
-    ghost use Rattle.playing.specs.Stages.{id_of};
+    ghost use Rattle.model_events.specs.declared.event.Call.TheVariants as calls;
+    ghost use Rattle.model_events.specs.declared.hold.HoldKind.TheVariants as kinds;
+    ghost use Rattle.model_rw_writer.specs.declared.RwWriterPlace.TheVariants as places;
+    ghost use Rattle.running_passes.specs.Passes.{object_of, part_of, sights_of};
+    ghost use Rattle.running_model.specs.Passes.{counts_of as tally_of};
+    ghost use Rattle.running_model.specs.Counts.{HasMoved, WasRefusedAt};
+    ghost use Rattle.running_model.specs.Tries.{MayTry, Tried, IsGranted, IsRefused};
+    ghost use Rattle.running_tallies.specs.RwWriterScript.{rw_writer_model};
+    ghost use Rattle.running_model.specs.Stages.{id_of};
     ghost use Rattle.running_rw_writer.specs.RwWriterSteps.{IsOnly};
     ghost use Rattle.running_rw_writer.specs.RwWriterShown.{IsShut, EntersToRead};
 

@@ -6,37 +6,37 @@ use crate::deeds::{
     TakeMark,
 };
 use crate::{COUNTER, LOCK, RwLockWriterPreference};
-use passes::Pass;
-use playing::Sealed;
-use playing::turn::{Continues, Goes, Turn, Way};
+use model_rw_writer::writer_enters;
+use running_model::Sealed;
+use running_model::turn::{Continues, Goes, Turn, Way};
+use running_passes::Pass;
 use running_rw_hold::UnlockCall;
+use running_tallies::{PlayedRwWriter, WaitWord};
 use std::alloc::Allocator;
-use steps_rw_writer::writer_enters;
-use tallies::{PlayedRwWriter, WaitWord};
 
 /// The pass inside.
 pub(crate) type PlayedPass = Pass<PlayedRwWriter>;
 
 impl<A: Allocator> RwLockWriterPreference<A> {
     ghost use Rattle.std.specs.Prelude.{◌≢◌, ◌%◌, ◌+◌, ◌<◌, IfOk, IfErr, true, List, Some, ℕ};
-    ghost use Rattle.passes.specs.Answers.{HasWoken};
-    ghost use Rattle.steps_events.specs.declared.event.Call.{Call};
-    ghost use Rattle.steps_events.specs.declared.event.Call.TheVariants as calls;
-    ghost use Rattle.steps_events.specs.declared.hold.HoldKind.TheVariants as kinds;
-    ghost use Rattle.steps_events.specs.declared.patience.Patience.{Patience};
-    ghost use Rattle.steps_events.specs.declared.row.Intent.TheVariants as intents;
-    ghost use Rattle.steps_events.specs.declared.row.After.TheVariants as afters;
-    ghost use Rattle.steps_rw_writer.specs.declared.Leaver.{Leaver};
-    ghost use Rattle.steps_rw_writer.specs.declared.Leaver.TheVariants as leavers;
-    ghost use Rattle.steps_rw_writer.specs.declared.RwWriterPlace.TheVariants as places;
-    ghost use Rattle.steps_rw_writer.specs.Table.{released, marks_or_spins, spins, unmarks_or_leaves, write_look, last_look};
-    ghost use Rattle.passes.specs.Passes.{sights_of, IsSamePass};
-    ghost use Rattle.playing.specs.Slots.{Slot};
-    ghost use Rattle.playing.specs.Plays.{Going};
-    ghost use Rattle.playing.specs.Passes.{parties_of, counted};
-    ghost use Rattle.playing.specs.Counts.{HasSeen, HasMissed, HasDone};
-    ghost use Rattle.playing.specs.Stages.{IsPassOf, id_of};
-    ghost use Rattle.tallies.specs.Shown.{object_shown, index_shown};
+    ghost use Rattle.running_passes.specs.Answers.{HasWoken};
+    ghost use Rattle.model_events.specs.declared.event.Call.{Call};
+    ghost use Rattle.model_events.specs.declared.event.Call.TheVariants as calls;
+    ghost use Rattle.model_events.specs.declared.hold.HoldKind.TheVariants as kinds;
+    ghost use Rattle.model_events.specs.declared.patience.Patience.{Patience};
+    ghost use Rattle.model_events.specs.declared.row.Intent.TheVariants as intents;
+    ghost use Rattle.model_events.specs.declared.row.After.TheVariants as afters;
+    ghost use Rattle.model_rw_writer.specs.declared.Leaver.{Leaver};
+    ghost use Rattle.model_rw_writer.specs.declared.Leaver.TheVariants as leavers;
+    ghost use Rattle.model_rw_writer.specs.declared.RwWriterPlace.TheVariants as places;
+    ghost use Rattle.model_rw_writer.specs.Table.{released, marks_or_spins, spins, unmarks_or_leaves, write_look, last_look};
+    ghost use Rattle.running_passes.specs.Passes.{sights_of, IsSamePass};
+    ghost use Rattle.running_model.specs.Slots.{Slot};
+    ghost use Rattle.running_model.specs.Plays.{Going};
+    ghost use Rattle.running_model.specs.Passes.{parties_of, counted};
+    ghost use Rattle.running_model.specs.Counts.{HasSeen, HasMissed, HasDone};
+    ghost use Rattle.running_model.specs.Stages.{IsPassOf, id_of};
+    ghost use Rattle.running_tallies.specs.Shown.{object_shown, index_shown};
     ghost use Rattle.running_rw_writer.specs.RwWriterParties.{has_hold, TableHas, TableLed, SomeCallGoes, GoesFromTo, WriteGoes, ComesToWrite, IsToWakeBoth, Unlocks};
     ghost use Rattle.running_rw_writer.specs.RwWriterSteps.{IsMarked, SaysAlone, WriterIn, Unchanged, read};
     ghost use Rattle.running_rw_writer.specs.RwWriterShown.{reads_of, writes_of, HasTried, HasJustSeen, HasMissedIt, MayGiveUp, HasGivenUpWriting, HasLeftReading, HasLeftWriting};

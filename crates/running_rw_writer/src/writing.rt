@@ -1,35 +1,35 @@
 //! What calls of a writer-preferring lock do for a writer.
 ghost use Rattle.std.specs.Prelude.{◌≡◌};
-ghost use Rattle.steps_rw_writer.specs.Table.{is_blocked as blocked};
+ghost use Rattle.model_rw_writer.specs.Table.{is_blocked as blocked};
 
 use crate::steps::PlayedPass;
 use crate::{RwLockWriterPreference, RwWriterPass};
-use playing::turn::{Aborted, Answered, Goes, Turn, Way, begin_held, begin_new};
+use model_events::{SPIN_REPETITIONS, WaitAction};
+use model_rw_writer::{marks, unmarks, writer_enters};
+use running_model::turn::{Aborted, Answered, Goes, Turn, Way, begin_held, begin_new};
 use running_rw_hold::{TryWriteCall, UnlockCall, WriteCall};
+use running_tallies::WaitWord;
 use std::alloc::Allocator;
 use std::hint::spin_loop;
 use std::sync::Wait;
-use steps_events::{SPIN_REPETITIONS, WaitAction};
-use steps_rw_writer::{marks, unmarks, writer_enters};
-use tallies::WaitWord;
 
 impl<A: Allocator> RwLockWriterPreference<A> {
     ghost use Rattle.std.specs.Prelude.{true, false, ◌^◌, ◌<◌, MatchBool, IfOk, IfErr, is_ok, ℕ, List, Some, None};
-    ghost use Rattle.steps_events.specs.declared.event.Call.TheVariants as calls;
-    ghost use Rattle.steps_events.specs.declared.event.Answer.TheVariants as answers;
-    ghost use Rattle.steps_events.specs.declared.hold.HoldKind.TheVariants as kinds;
-    ghost use Rattle.steps_events.specs.declared.patience.Patience.{Patience};
-    ghost use Rattle.steps_events.specs.declared.row.After.TheVariants as afters;
-    ghost use Rattle.steps_rw_writer.specs.declared.Leaver.TheVariants as leavers;
-    ghost use Rattle.steps_rw_writer.specs.declared.RwWriterPlace.TheVariants as places;
-    ghost use Rattle.steps_rw_writer.specs.Table.{spins, unmarks_or_leaves, write_look, write_refused};
-    ghost use Rattle.passes.specs.Answers.{MayAnswerAbort, HasWoken};
-    ghost use Rattle.passes.specs.Passes.{sights_of, IsSamePass};
-    ghost use Rattle.playing.specs.Plays.{Beginning};
-    ghost use Rattle.playing.specs.Slots.{Slot, all_of};
-    ghost use Rattle.playing.specs.Tries.{spun};
-    ghost use Rattle.playing.specs.Passes.{parties_of, counted};
-    ghost use Rattle.playing.specs.Stages.{IsPassOf};
+    ghost use Rattle.model_events.specs.declared.event.Call.TheVariants as calls;
+    ghost use Rattle.model_events.specs.declared.event.Answer.TheVariants as answers;
+    ghost use Rattle.model_events.specs.declared.hold.HoldKind.TheVariants as kinds;
+    ghost use Rattle.model_events.specs.declared.patience.Patience.{Patience};
+    ghost use Rattle.model_events.specs.declared.row.After.TheVariants as afters;
+    ghost use Rattle.model_rw_writer.specs.declared.Leaver.TheVariants as leavers;
+    ghost use Rattle.model_rw_writer.specs.declared.RwWriterPlace.TheVariants as places;
+    ghost use Rattle.model_rw_writer.specs.Table.{spins, unmarks_or_leaves, write_look, write_refused};
+    ghost use Rattle.running_passes.specs.Answers.{MayAnswerAbort, HasWoken};
+    ghost use Rattle.running_passes.specs.Passes.{sights_of, IsSamePass};
+    ghost use Rattle.running_model.specs.Plays.{Beginning};
+    ghost use Rattle.running_model.specs.Slots.{Slot, all_of};
+    ghost use Rattle.running_model.specs.Tries.{spun};
+    ghost use Rattle.running_model.specs.Passes.{parties_of, counted};
+    ghost use Rattle.running_model.specs.Stages.{IsPassOf};
     ghost use Rattle.running_rw_writer.specs.RwWriterParties.{has_hold, TableLed, GoesFromTo, OnceWriting, WriteGoes, WriteIsGranted, WriteGivesUp, ComesToWrite, ComesToGiveUp, Unlocks};
     ghost use Rattle.running_rw_writer.specs.RwWriterSteps.{IsMarked, WriterIn};
     ghost use Rattle.running_rw_writer.specs.RwWriterShown.{IsRwWriterPass, IsAloneWithin, pass_in, writes_of, flags_of, HasEnteredToWrite, HasEnteredSeenFree, HasWrittenAtOnce, HasSeenTaken, HasTried, HasJustSeen, MayGiveUp, HasGivenUpWriting, HasLeftWriting, HasPlayed, HasPlayedGivingUp};

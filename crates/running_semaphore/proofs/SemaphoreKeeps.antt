@@ -1,15 +1,15 @@
 -- What a step makes of what a pass saw and counts; and where no other pass is left, the word is what its tally comes to.
 use Rattle.running_semaphore.specs.Names.{Word, Call, Intent, carried_out, value_told, SemaphorePlace, semaphore_table, View, view_of, looked, missed, wrote, sum_of, Parties, sights_after, Coming, Beginning, MayStep, WentAlone, played, none_played, both_played, PlaysAndCounts, Told, SemaphoreScript, Permits, no_permits, both_permits, value_of, permits_after, ArePermitsOf, semaphore_model}
 use Rattle.running_semaphore.proofs.Names.{◌≡◌, ◌≢◌, ℕ, ◌+◌, ◌-◌, ◌%◌, ◌^◌, ◌<◌, ◌≤◌, ◌==◌, Bool, true, List, [], ◌∷◌, ap, sym, subst, ◌∙◌, refl, Some, arith, ne_eqb, some_same, eqb_same}
-use Rattle.steps_events.specs.declared.event.Act.{Act}
-use Rattle.steps_events.specs.declared.event.Event.{Event}
-use Rattle.steps_events.specs.Past.{word_in}
-use Rattle.steps_events.specs.Integers.{u64_arithmetic}
-use Rattle.steps_events.specs.Runs.{IsPast}
-use Rattle.steps_semaphore.proofs.Laws.{semaphore_tallies}
-use Rattle.passes.specs.Objects.{HasClosed}
-use Rattle.playing.proofs.Words.{hold_at}
-use Rattle.playing.proofs.OfARun.{of_a_run}
+use Rattle.model_events.specs.declared.event.Act.{Act}
+use Rattle.model_events.specs.declared.event.Event.{Event}
+use Rattle.model_events.specs.Past.{word_in}
+use Rattle.model_events.specs.Integers.{u64_arithmetic}
+use Rattle.model_events.specs.Runs.{IsPast}
+use Rattle.model_semaphore.proofs.Laws.{semaphore_tallies}
+use Rattle.running_passes.specs.Objects.{HasClosed}
+use Rattle.running_model.proofs.Words.{hold_at}
+use Rattle.running_model.proofs.OfARun.{of_a_run}
 use Rattle.running_semaphore.specs.SemaphoreSteps.{PlayedSemaphore, PermitsAreOfARun, took, gave}
 
 module _ (initial : ℕ) where

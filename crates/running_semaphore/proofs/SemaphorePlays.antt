@@ -1,9 +1,9 @@
 -- The steps of a semaphore are those of its table.
 use Rattle.running_semaphore.specs.Names.{MatchBool, Word, Call, Answer, Then, Intent, SemaphorePlace, semaphore_intent, semaphore_model, WaitResult, Success, Interrupted, IsSuccess, IsInterrupted, Slot, Parties, all_of, Coming, Going, Beginning, ComesBy, IsAt, Led, HasCalled, MayStep, Went, spun, MayTry, Tried, IsGranted, IsRefused, IsToWake}
 use Rattle.running_semaphore.proofs.Names.{◌≡◌, ◌≢◌, ℕ, ◌-◌, ◌<◌, ◌^◌, ◌==◌, Bool, true, false, refl, sym, ap, subst, List, [], ◌∷◌, None, ne_eqb, MatchBool-at_true, MatchBool-at_false, eqb_same}
-use Rattle.steps_events.specs.declared.event.Wake.{Wake}
-use Rattle.playing.specs.Words.{IsNamed}
-use Rattle.playing.specs.Turns.{IsOverAside}
+use Rattle.model_events.specs.declared.event.Wake.{Wake}
+use Rattle.running_model.specs.Words.{IsNamed}
+use Rattle.running_model.specs.Turns.{IsOverAside}
 use Rattle.running_semaphore.specs.SemaphoreParties.{Wanting, Trying, Waiting, call_of, look_of, take_of, MayWant, HasLooked, FoundNone, HasOne, HasWanted}
 use Rattle.running_semaphore.specs.SemaphoreShown.{answer_of, Posts}
 

@@ -1,7 +1,7 @@
 -- The parties of the model that a pass of a semaphore is, and how their calls go.
 use Rattle.running_semaphore.specs.Names.{ℕ, ◌-◌, Bool, List, None, MatchBool, Call, Answer, within, refused, SemaphorePlace, try_look, look, semaphore_model, Slot, Parties, Coming, ComesBy, Leads, HasEnded}
-use Rattle.steps_events.specs.declared.patience.Patience.{Patience}
-use Rattle.steps_events.specs.declared.row.After.{After}
+use Rattle.model_events.specs.declared.patience.Patience.{Patience}
+use Rattle.model_events.specs.declared.row.After.{After}
 
 -- A call that wants a permit: a `TryWait`, or a `Wait` that has this patience.
 pub data Wanting : Type 0 where

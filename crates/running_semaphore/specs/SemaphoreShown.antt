@@ -1,8 +1,8 @@
 -- What contracts see of a semaphore and its pass, and what a call changes in a pass.
 use Rattle.running_semaphore.specs.Names.{◌≡◌, ℕ, ◌+◌, ◌<◌, ◌≤◌, ◌%◌, ◌^◌, None, Call, Answer, Then, SemaphorePlace, semaphore_model, WaitResult, Success, Interrupted, IsWhole, IsSamePass, part_of, sights_of, looked, wrote, Played, Parties, all_of, HasCalled, IsAt, parties_of, counts_of, counted, HasMoved, Permits, SemaphoreScript, value_of}
-use Rattle.passes.specs.declared.part.Part.{Part}
-use Rattle.passes.specs.declared.pass.Pass.{Pass}
-use Rattle.playing.specs.Stages.{IsPassOf, key_of}
+use Rattle.running_passes.specs.declared.part.Part.{Part}
+use Rattle.running_passes.specs.declared.pass.Pass.{Pass}
+use Rattle.running_model.specs.Stages.{IsPassOf, key_of}
 use Rattle.running_semaphore.specs.declared.Semaphore.{Semaphore}
 use Rattle.running_semaphore.specs.SemaphoreSteps.{took}
 

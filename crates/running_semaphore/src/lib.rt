@@ -4,20 +4,20 @@
 #![tactic(auto)]
 
 ghost use Rattle.std.specs.Prelude.{◌≡◌, ◌<◌, ◌≤◌, IfOk};
-ghost use Rattle.playing.specs.Passes.{parties_of, counts_of};
-ghost use Rattle.playing.specs.Stages.{count_of};
+ghost use Rattle.running_model.specs.Passes.{parties_of, counts_of};
+ghost use Rattle.running_model.specs.Stages.{count_of};
 ghost use Rattle.running_semaphore.specs.SemaphoreSteps.{PermitsAreOfARun};
 
-use passes::{Origin, Pass, WaitResult, success_if};
-use playing::turn::{Attempt, Called, Goes, Turn, Way, begin_new, try_again};
-use playing::{Sealed, Stage};
+use model_events::WaitAction;
+use model_semaphore::{SemaphorePlace, taken};
+use running_model::turn::{Attempt, Called, Goes, Turn, Way, begin_new, try_again};
+use running_model::{Sealed, Stage};
+use running_passes::{Origin, Pass, WaitResult, success_if};
+use running_tallies::{Permits, PlayedSemaphore, SemaphoreScript, WaitWord};
 use std::alloc::{AllocError, Allocator, Global};
 use std::marker::Brand;
 use std::ops::Deref;
 use std::sync::Wait;
-use steps_events::WaitAction;
-use steps_semaphore::{SemaphorePlace, taken};
-use tallies::{Permits, PlayedSemaphore, SemaphoreScript, WaitWord};
 
 /// A counting semaphore.
 #[derive(Drop)]
@@ -28,7 +28,7 @@ pub struct Semaphore<A: Allocator = Global> {
 
 /// What the passes of a semaphore come from, at which they are split and joined.
 impl<A: Allocator> Deref for Semaphore<A> {
-    ghost use Rattle.playing.specs.Stages.{origin};
+    ghost use Rattle.running_model.specs.Stages.{origin};
 
     type Target = Origin<u64, PlayedSemaphore, A>;
 
@@ -47,7 +47,7 @@ pub type SemPass = Pass<PlayedSemaphore>;
 struct ValueCall;
 
 impl Called<u64> for ValueCall {
-    ghost use Rattle.steps_events.specs.declared.event.Call.TheVariants as calls;
+    ghost use Rattle.model_events.specs.declared.event.Call.TheVariants as calls;
 
     ghost call = { calls.Value };
 }
@@ -56,7 +56,7 @@ impl Called<u64> for ValueCall {
 struct TryWaitCall;
 
 impl Called<u64> for TryWaitCall {
-    ghost use Rattle.steps_events.specs.declared.event.Call.TheVariants as calls;
+    ghost use Rattle.model_events.specs.declared.event.Call.TheVariants as calls;
 
     ghost call = { calls.TryWait };
 }
@@ -65,30 +65,30 @@ impl Called<u64> for TryWaitCall {
 struct WaitCall;
 
 impl Called<u64> for WaitCall {
-    ghost use Rattle.steps_events.specs.declared.event.Call.TheVariants as calls;
+    ghost use Rattle.model_events.specs.declared.event.Call.TheVariants as calls;
 
     ghost call = { calls.Wait };
 }
 
 impl<A: Allocator> Semaphore<A> {
     ghost use Rattle.std.specs.Prelude.{true, false, ◌+◌, ◌-◌, ◌≢◌, [], ◌∷◌, MatchBool};
-    ghost use Rattle.steps_events.specs.declared.event.Word.TheVariants as words;
-    ghost use Rattle.steps_events.specs.declared.event.Call.TheVariants as calls;
-    ghost use Rattle.steps_events.specs.declared.event.Answer.TheVariants as answers;
-    ghost use Rattle.steps_events.specs.declared.row.Intent.TheVariants as intents;
-    ghost use Rattle.tallies.specs.SemaphoreScript.{semaphore_model};
-    ghost use Rattle.passes.specs.Answers.{IfSuccess, IfInterrupted, IsSuccess, MayAnswerAbort, HasAsked, HasWoken};
-    ghost use Rattle.passes.specs.Parts.{IsWhole};
-    ghost use Rattle.passes.specs.Sights.{LooksOnceOrMisses};
-    ghost use Rattle.passes.specs.Views.{first_view};
-    ghost use Rattle.passes.specs.Passes.{view, part_of, sights_of};
-    ghost use Rattle.playing.specs.Slots.{no_parties};
-    ghost use Rattle.playing.specs.Plays.{Beginning, Going, MayStep, Went};
-    ghost use Rattle.playing.specs.Passes.{played};
-    ghost use Rattle.playing.specs.Counts.{HasSeen, HasMissed, HasDone, WasRefused};
-    ghost use Rattle.playing.specs.Stages.{id_of};
-    ghost use Rattle.tallies.specs.SemaphoreRule.{first_permits};
-    ghost use Rattle.tallies.specs.Shown.{object_shown, index_shown};
+    ghost use Rattle.model_events.specs.declared.event.Word.TheVariants as words;
+    ghost use Rattle.model_events.specs.declared.event.Call.TheVariants as calls;
+    ghost use Rattle.model_events.specs.declared.event.Answer.TheVariants as answers;
+    ghost use Rattle.model_events.specs.declared.row.Intent.TheVariants as intents;
+    ghost use Rattle.running_tallies.specs.SemaphoreScript.{semaphore_model};
+    ghost use Rattle.running_passes.specs.Answers.{IfSuccess, IfInterrupted, IsSuccess, MayAnswerAbort, HasAsked, HasWoken};
+    ghost use Rattle.running_passes.specs.Parts.{IsWhole};
+    ghost use Rattle.running_passes.specs.Sights.{LooksOnceOrMisses};
+    ghost use Rattle.running_passes.specs.Views.{first_view};
+    ghost use Rattle.running_passes.specs.Passes.{view, part_of, sights_of};
+    ghost use Rattle.running_model.specs.Slots.{no_parties};
+    ghost use Rattle.running_model.specs.Plays.{Beginning, Going, MayStep, Went};
+    ghost use Rattle.running_model.specs.Passes.{played};
+    ghost use Rattle.running_model.specs.Counts.{HasSeen, HasMissed, HasDone, WasRefused};
+    ghost use Rattle.running_model.specs.Stages.{id_of};
+    ghost use Rattle.running_tallies.specs.SemaphoreRule.{first_permits};
+    ghost use Rattle.running_tallies.specs.Shown.{object_shown, index_shown};
     ghost use Rattle.running_semaphore.specs.SemaphoreParties.{MayWant, HasWanted};
     ghost use Rattle.running_semaphore.specs.SemaphoreSteps.{took, gave};
     ghost use Rattle.running_semaphore.specs.SemaphoreShown.{IsSemPass, initial_of, given_of, taken_of, worth_of, IsEmpty, HasTaken, HasTakenAtOnce, HasCounted, answer_of, HasPlayed, HasPlayedPost, HasPlayedBoth};
@@ -387,14 +387,14 @@ impl<A: Allocator> Semaphore<A> {
 impl<A: Allocator> Attempt<u64, SemaphoreScript, SemaphorePlace, u64, Permits> for Semaphore<A> {
     ghost use Rattle.std.specs.Prelude.{◌+◌, None, IfErr};
     ghost use Rattle.std.proofs.Common.{refl};
-    ghost use Rattle.steps_events.specs.declared.event.Call.TheVariants as calls;
-    ghost use Rattle.steps_semaphore.specs.declared.SemaphorePlace.TheVariants as places;
-    ghost use Rattle.passes.specs.Parts.{IsWhole};
-    ghost use Rattle.passes.specs.Passes.{object_of, part_of, sights_of};
-    ghost use Rattle.playing.specs.Counts.{HasMoved, WasRefusedAt};
-    ghost use Rattle.playing.specs.Tries.{MayTry, Tried, IsGranted, IsRefused};
-    ghost use Rattle.playing.specs.Stages.{id_of, key_of};
-    ghost use Rattle.tallies.specs.SemaphoreScript.{semaphore_model};
+    ghost use Rattle.model_events.specs.declared.event.Call.TheVariants as calls;
+    ghost use Rattle.model_semaphore.specs.declared.SemaphorePlace.TheVariants as places;
+    ghost use Rattle.running_passes.specs.Parts.{IsWhole};
+    ghost use Rattle.running_passes.specs.Passes.{object_of, part_of, sights_of};
+    ghost use Rattle.running_model.specs.Counts.{HasMoved, WasRefusedAt};
+    ghost use Rattle.running_model.specs.Tries.{MayTry, Tried, IsGranted, IsRefused};
+    ghost use Rattle.running_model.specs.Stages.{id_of, key_of};
+    ghost use Rattle.running_tallies.specs.SemaphoreScript.{semaphore_model};
     ghost use Rattle.running_semaphore.specs.SemaphoreShown.{IsEmpty, Takes, initial_of};
 
     ghost object = { λ s. id_of s.stage };

@@ -2,9 +2,9 @@
 use Rattle.running_spin_lock.specs.Names.{MatchBool, Word, Call, Act, Event, Then, Answer, HoldKind, Intent, SpinPlace, carried_out, PendingCall, call_of, spin_table, spin_intent, SpinStep, Slot, Parties, all_of, Coming, Going, Beginning, Continuing, ComesBy, IsHolding, Led, HasCalled, MayStep, IsStepAt, Went, grants_by}
 use Rattle.running_spin_lock.proofs.Names.{◌≡◌, ◌≢◌, ◌≤◌, ◌==◌, ℕ, zero, suc, Bool, true, false, cond, refl, sym, ap, subst, ◌∙◌, List, [], ◌∷◌, Option, Some, None, inl, inr, arith, ne_eqb, is_over}
 use Rattle.running_spin_lock.specs.SpinLawful.{spin_model, spin_lawful}
-use Rattle.playing.specs.Turns.{IsOver}
-use Rattle.playing.proofs.Holding.{holding_told, holding_is}
-use Rattle.playing.proofs.Steps.{next_step}
+use Rattle.running_model.specs.Turns.{IsOver}
+use Rattle.running_model.proofs.Holding.{holding_told, holding_is}
+use Rattle.running_model.proofs.Steps.{next_step}
 use Rattle.running_spin_lock.specs.SpinParties.{IsWaiting, IsSpinning, IsGranted, HasLock, Unlocks}
 
 -- how the calls begin

@@ -5,13 +5,13 @@ use mathlib.Core.Logic.{dite}
 use mathlib.Core.Option as maybe
 use native.Mathlib.Decide.{ℕ_discrete}
 use Rattle.std.specs.Option.{IsSome}
-use Rattle.passes.specs.Tallies.{IsTally}
-use Rattle.passes.proofs.Sums.{others, sum_at, sum_set, sum_of_two, alone}
-use Rattle.playing.specs.Words.{effect}
-use Rattle.playing.proofs.Opening as opening_runs
-use Rattle.playing.proofs.OfARun.{of_a_run}
-use Rattle.playing.proofs.Updates.{makes, made_run}
-use Rattle.tallies.specs.MutexTally.{holds_add_up, grants_stay, at_zero, beside_zero}
+use Rattle.running_passes.specs.Tallies.{IsTally}
+use Rattle.running_passes.proofs.Sums.{others, sum_at, sum_set, sum_of_two, alone}
+use Rattle.running_model.specs.Words.{effect}
+use Rattle.running_model.proofs.Opening as opening_runs
+use Rattle.running_model.proofs.OfARun.{of_a_run}
+use Rattle.running_model.proofs.Updates.{makes, made_run}
+use Rattle.running_tallies.specs.MutexTally.{holds_add_up, grants_stay, at_zero, beside_zero}
 use Rattle.running_spin_lock.specs.ValueRule.{none_held, both_held, core_held, IsGuarding, ValueAgrees, OneHolder}
 use Rattle.running_spin_lock.specs.ValueSteps.{granted, released, Tried, Stored, is_vacant, has_vacant_slot}
 

@@ -1,7 +1,7 @@
 -- What was seen over several tries of a lock that guards a value.
 use Rattle.running_spin_lock.specs.Names.{Sights, View, Played, Holds}
 use Rattle.running_spin_lock.proofs.Names.{◌≡◌, ℕ, ◌+◌, ap, refl, ◌∙◌, subst, arith}
-use Rattle.passes.proofs.Attempts.{read_twice, read_and_written}
+use Rattle.running_passes.proofs.Attempts.{read_twice, read_and_written}
 use Rattle.running_spin_lock.specs.ValueSteps.{granted, Locks, Sees, Enters, OnlySees}
 
 module _ {M Q : Type 0} where

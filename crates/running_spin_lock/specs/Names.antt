@@ -1,32 +1,32 @@
 -- What this crate reads of others.
 pub use Rattle.atomic_table.specs.Seated.{TableId, table_id_coded}
 pub use Rattle.atomic_table.specs.Table.{State, Me, opening, keeps, takes, gives, put_back, rest, Allows, Final, Seen}
-pub use Rattle.passes.specs.Parts.{IsWhole, IsAgain}
-pub use Rattle.passes.specs.Sights.{HasWritten, seen, HasOnlyRead, stale}
-pub use Rattle.passes.specs.Views.{spent_view, sum_of, IsCounted, view_of, wrote, first_view, joined_view}
-pub use Rattle.passes.specs.declared.part.Sights.{Sights}
-pub use Rattle.passes.specs.declared.view.View.{View}
-pub use Rattle.playing.specs.Models.{Model}
-pub use Rattle.playing.specs.Passes.{none_played, both_played, core_played, PlaysAndCounts, IsOfARun, counted_in, played, played_add_up}
-pub use Rattle.playing.specs.Plays.{IsAt, IsHolding, HasEnded, HasCalled, Coming, Went, Going, Beginning, Continuing, ComesBy, Led, MayStep, IsStepAt}
-pub use Rattle.playing.specs.Slots.{Slot, Parties, all_of}
-pub use Rattle.playing.specs.Sums.{grants_by, next_grants}
-pub use Rattle.playing.specs.declared.played.Played.{Played}
+pub use Rattle.running_passes.specs.Parts.{IsWhole, IsAgain}
+pub use Rattle.running_passes.specs.Sights.{HasWritten, seen, HasOnlyRead, stale}
+pub use Rattle.running_passes.specs.Views.{spent_view, sum_of, IsCounted, view_of, wrote, first_view, joined_view}
+pub use Rattle.running_passes.specs.declared.part.Sights.{Sights}
+pub use Rattle.running_passes.specs.declared.view.View.{View}
+pub use Rattle.running_model.specs.Models.{Model}
+pub use Rattle.running_model.specs.Passes.{none_played, both_played, core_played, PlaysAndCounts, IsOfARun, counted_in, played, played_add_up}
+pub use Rattle.running_model.specs.Plays.{IsAt, IsHolding, HasEnded, HasCalled, Coming, Went, Going, Beginning, Continuing, ComesBy, Led, MayStep, IsStepAt}
+pub use Rattle.running_model.specs.Slots.{Slot, Parties, all_of}
+pub use Rattle.running_model.specs.Sums.{grants_by, next_grants}
+pub use Rattle.running_model.specs.declared.played.Played.{Played}
 pub use Rattle.std.specs.Prelude.{ℕ, List, ◌≡◌, true, ◌⊎◌, Some, None, ◌+◌, ◌<◌, ◌≤◌, Option, [], ◌∷◌, ◌≢◌, Bool, false, ◌==◌, ◌&&◌, MatchBool}
-pub use Rattle.steps_events.specs.Past.{PendingCall, call_of}
-pub use Rattle.steps_events.specs.Rows.{carried_out}
-pub use Rattle.steps_events.specs.Runs.{IsPast}
-pub use Rattle.steps_events.specs.declared.event.Act.{Act}
-pub use Rattle.steps_events.specs.declared.event.Answer.{Answer}
-pub use Rattle.steps_events.specs.declared.event.Call.{Call}
-pub use Rattle.steps_events.specs.declared.event.Event.{Event}
-pub use Rattle.steps_events.specs.declared.event.Then.{Then}
-pub use Rattle.steps_events.specs.declared.event.Word.{Word}
-pub use Rattle.steps_events.specs.declared.hold.HoldKind.{HoldKind}
-pub use Rattle.steps_events.specs.declared.row.Intent.{Intent}
-pub use Rattle.steps_spin.specs.Law.{KeepsSpin, SpinStep}
-pub use Rattle.steps_spin.specs.Table.{spin_table, spin_intent}
-pub use Rattle.steps_spin.specs.declared.SpinPlace.{SpinPlace}
-pub use Rattle.tallies.specs.MutexRule.{no_holds, both_holds, IsHeld, AreGrantsIn, holds}
-pub use Rattle.tallies.specs.declared.mutex.Holds.{Holds}
+pub use Rattle.model_events.specs.Past.{PendingCall, call_of}
+pub use Rattle.model_events.specs.Rows.{carried_out}
+pub use Rattle.model_events.specs.Runs.{IsPast}
+pub use Rattle.model_events.specs.declared.event.Act.{Act}
+pub use Rattle.model_events.specs.declared.event.Answer.{Answer}
+pub use Rattle.model_events.specs.declared.event.Call.{Call}
+pub use Rattle.model_events.specs.declared.event.Event.{Event}
+pub use Rattle.model_events.specs.declared.event.Then.{Then}
+pub use Rattle.model_events.specs.declared.event.Word.{Word}
+pub use Rattle.model_events.specs.declared.hold.HoldKind.{HoldKind}
+pub use Rattle.model_events.specs.declared.row.Intent.{Intent}
+pub use Rattle.model_spin.specs.Law.{KeepsSpin, SpinStep}
+pub use Rattle.model_spin.specs.Table.{spin_table, spin_intent}
+pub use Rattle.model_spin.specs.declared.SpinPlace.{SpinPlace}
+pub use Rattle.running_tallies.specs.MutexRule.{no_holds, both_holds, IsHeld, AreGrantsIn, holds}
+pub use Rattle.running_tallies.specs.declared.mutex.Holds.{Holds}
 pub use lib.ListN.{get_elem?}

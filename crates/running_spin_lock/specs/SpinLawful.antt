@@ -1,7 +1,7 @@
 -- The model that a spin lock plays.
 use Rattle.running_spin_lock.specs.Names.{ℕ, List, Event, Model, IsPast, SpinPlace, spin_table, KeepsSpin}
-use Rattle.steps_events.specs.Integers.{u64_arithmetic}
-use Rattle.steps_spin.proofs.Laws.{keeps_spin}
+use Rattle.model_events.specs.Integers.{u64_arithmetic}
+use Rattle.model_spin.proofs.Laws.{keeps_spin}
 
 abbrev pub spin_model : Model ℕ SpinPlace
 spin_model = record { arithmetic = u64_arithmetic; table = spin_table; law = KeepsSpin }

@@ -7,7 +7,7 @@ use crate::pass::SpinPass;
 use crate::script::PlayedSpin;
 use crate::spin_lock::SpinLock;
 use atomic_table::Seat;
-use passes::View;
+use running_passes::View;
 use std::alloc::{Allocator, Global};
 use std::ops::{Deref, DerefMut};
 

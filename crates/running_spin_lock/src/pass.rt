@@ -1,14 +1,14 @@
 //! The right to call a spin lock.
 ghost use Rattle.std.specs.Prelude.{◌≡◌, ◌≤◌, ◌<◌, [], ◌∷◌, length, IfOk, is_ok, true};
-ghost use Rattle.passes.specs.declared.part.Part.{Part};
-ghost use Rattle.passes.specs.Parts.{half, IsAgain, IsSamePart, AddUp};
-ghost use Rattle.passes.specs.Views.{left_view, right_view, joined_view, spent_view};
+ghost use Rattle.running_passes.specs.declared.part.Part.{Part};
+ghost use Rattle.running_passes.specs.Parts.{half, IsAgain, IsSamePart, AddUp};
+ghost use Rattle.running_passes.specs.Views.{left_view, right_view, joined_view, spent_view};
 ghost use Rattle.running_spin_lock.specs.ValueRule.{none_held, both_held, core_held, view_in};
 
 use crate::script::PlayedSpin;
 use crate::spin_lock::SpinLock;
 use atomic_table::{Badge, Join, Seat, Split};
-use passes::View;
+use running_passes::View;
 use std::alloc::Allocator;
 use std::mem;
 

@@ -1,12 +1,12 @@
 //! The rule over all passes of a lock that guards a value.
-ghost use Rattle.passes.specs.Views.{first_view, IsCounted};
+ghost use Rattle.running_passes.specs.Views.{first_view, IsCounted};
 ghost use Rattle.running_spin_lock.specs.ValueRule.{none_held, both_held, ValueAgrees};
 
 use atomic_table::TableRule;
-use passes::View;
-use playing::{Played, Script};
+use running_model::{Played, Script};
+use running_passes::View;
+use running_tallies::Holds;
 use std::marker::PhantomData;
-use tallies::Holds;
 
 /// The rule of the table that a lock with a value lies in, whose passes play this model: its word is that of a run of the model, in
 /// which the passes are parties; and the value is in its slot exactly where nobody has a hold.

@@ -1,15 +1,15 @@
 //! The model that a spin lock plays, and what its pass counts beside.
 
-use playing::{Played, Script};
-use steps_spin::SpinPlace;
-use tallies::Holds;
+use model_spin::SpinPlace;
+use running_model::{Played, Script};
+use running_tallies::Holds;
 
 /// The model that a spin lock plays: its one word is the lock's.
 pub struct SpinScript;
 
 impl Script<(), SpinPlace, u64> for SpinScript {
     ghost use Rattle.std.specs.Prelude.{[], ◌∷◌};
-    ghost use Rattle.steps_events.specs.declared.event.Word.TheVariants as words;
+    ghost use Rattle.model_events.specs.declared.event.Word.TheVariants as words;
     ghost use Rattle.running_spin_lock.specs.SpinLawful.{spin_model, spin_lawful};
 
     ghost model = { λ _. spin_model };

@@ -1,16 +1,16 @@
 //! The lock itself.
 ghost use Rattle.std.specs.Prelude.{◌≡◌, ℕ, ◌<◌, List, [], ◌∷◌, IfOk, IfErr, IfSome, IsSome, Some, None, is_ok, true, false, MatchBool};
-ghost use Rattle.steps_events.specs.declared.event.Word.TheVariants as words;
-ghost use Rattle.steps_events.specs.declared.event.Call.TheVariants as calls;
-ghost use Rattle.steps_events.specs.declared.event.Answer.TheVariants as answers;
-ghost use Rattle.steps_events.specs.declared.hold.HoldKind.TheVariants as kinds;
-ghost use Rattle.steps_events.specs.declared.row.Intent.TheVariants as intents;
+ghost use Rattle.model_events.specs.declared.event.Word.TheVariants as words;
+ghost use Rattle.model_events.specs.declared.event.Call.TheVariants as calls;
+ghost use Rattle.model_events.specs.declared.event.Answer.TheVariants as answers;
+ghost use Rattle.model_events.specs.declared.hold.HoldKind.TheVariants as kinds;
+ghost use Rattle.model_events.specs.declared.row.Intent.TheVariants as intents;
 ghost use Rattle.running_spin_lock.specs.SpinLawful.{spin_model};
-ghost use Rattle.passes.specs.Parts.{IsWhole};
-ghost use Rattle.passes.specs.Sights.{seen};
-ghost use Rattle.passes.specs.Views.{first_view};
-ghost use Rattle.playing.specs.Slots.{Slot};
-ghost use Rattle.playing.specs.Plays.{Beginning, MayStep};
+ghost use Rattle.running_passes.specs.Parts.{IsWhole};
+ghost use Rattle.running_passes.specs.Sights.{seen};
+ghost use Rattle.running_passes.specs.Views.{first_view};
+ghost use Rattle.running_model.specs.Slots.{Slot};
+ghost use Rattle.running_model.specs.Plays.{Beginning, MayStep};
 ghost use Rattle.running_spin_lock.specs.ValueRule.{none_held};
 ghost use Rattle.running_spin_lock.specs.ValueSteps.{Locks, Lets, Enters, Tries, Tried, Stored, HasValue, has_vacant_slot};
 ghost use Rattle.running_spin_lock.specs.SpinRule.{GrantsAreOfARun, OneHolderAtMost};
@@ -23,13 +23,13 @@ use crate::poison::LockResult;
 use crate::rule::ValueRule;
 use crate::script::{PlayedSpin, SpinScript};
 use atomic_table::{Play, Refused, Seat, Table};
-use passes::View;
-use playing::seat::{SeatTurn, begin_held, begin_new};
-use playing::turn::{Called, Goes, Way};
+use model_spin::SpinPlace;
+use running_model::seat::{SeatTurn, begin_held, begin_new};
+use running_model::turn::{Called, Goes, Way};
+use running_passes::View;
 use std::alloc::{AllocError, Allocator, Global};
 use std::hint::spin_loop;
 use std::sync::Wait;
-use steps_spin::SpinPlace;
 
 /// A lock with one holder at most, which guards a value. It may be shared by threads where the value may go from one to another.
 #[derive(Drop)]

@@ -5,9 +5,9 @@
 //! and 1 where reading, writing or memory failed.
 #![tactic(auto)]
 
+use draw_text::run::run;
 use std::io::Write;
 use std::process::ExitCode;
-use sync_draw::run::run;
 
 fn main(rt: HostRuntime) -> ExitCode {
     match run(rt.alloc(), &mut rt.stdin(), &mut rt.stdout()) {

@@ -6,11 +6,11 @@
 
 mod progress;
 
+use explore_client::run::run;
 use progress::Progress;
 use std::env;
 use std::io::Write;
 use std::process::ExitCode;
-use sync_client::run::run;
 
 fn main(rt: HostRuntime) -> ExitCode {
     let shows = match env::args(&rt) {

@@ -1,7 +1,7 @@
 //! How far a search has come, told each second.
 
+use explore_search::watch::Watch;
 use std::time::{Clock, Instant};
-use sync_search::watch::Watch;
 
 /// After how many seconds a line is written.
 const PERIOD: u64 = 1;

@@ -1,8 +1,8 @@
 -- Each call that an object has is found by its name, and read back from its words.
 use Rattle.sync_play.specs.Names.{ℕ, codes, Call, Input, Object, Arithmetic, IsValue, CallValues, has_call, Task, LineFault, name_of, calls_of, named, find, verbs, with_one, with_two, call_if, task_if, task_of, values_written, ◌>>=◌, only_two, Numerals, ReadsItsOwn}
 use Rattle.sync_play.proofs.Names.{◌≡◌, refl, ap, ◌∙◌, true, false, List, [], ◌∷◌, Some, None, Result, Ok, is_some, arith}
-use Rattle.steps_events.specs.IntegerLaws.{unsigned_value}
-use Rattle.sync_lines.specs.NumeralLaws.{unsigned_reads_back}
+use Rattle.model_events.specs.IntegerLaws.{unsigned_value}
+use Rattle.text_lines.specs.NumeralLaws.{unsigned_reads_back}
 use Rattle.sync_play.specs.Calls.{CallsAreNamed, CallsAreReadBack}
 
 -- a call without its values

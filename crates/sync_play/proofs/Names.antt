@@ -4,5 +4,5 @@ pub use Rattle.std.proofs.lemmas.Fmt.{decimal_digit}
 pub use Rattle.std.proofs.lemmas.List.{append-nil, take-append-drop, take_rest}
 pub use Rattle.std.proofs.lemmas.List.Concat.{flat_map-append}
 pub use Rattle.std.proofs.lemmas.Result.{err_from_is_err_and}
-pub use Rattle.sync_lines.proofs.CommandLaws.{HasValues, command_values}
-pub use Rattle.sync_lines.proofs.FaultLaws.{bind_ok, ok_is}
+pub use Rattle.text_lines.proofs.CommandLaws.{HasValues, command_values}
+pub use Rattle.text_lines.proofs.FaultLaws.{bind_ok, ok_is}

@@ -2,35 +2,35 @@
 pub use Rattle.std.specs.Fmt.{decimal}
 pub use Rattle.std.specs.Io.KnownBytes.{Appends, Consumes, IsAtEnd}
 pub use Rattle.std.specs.Prelude.{◌≡◌, true, Ok, is_some, ℕ, ◌+◌, ◌≤◌, false, List, [], ◌∷◌, ◌++◌, length, Option, Some, None, Err, ◌⊎◌, codes, zero, suc, ◌-◌, if◌then◌else◌, Result, ◌^◌, min, take, ◌*◌, replicate, map, string_bytes}
-pub use Rattle.steps_events.specs.Arithmetic.{Arithmetic, IsValue}
-pub use Rattle.steps_events.specs.Moves.{CallValues, Move, InputValues}
-pub use Rattle.steps_events.specs.Past.{failures_in, call_of, hold_of}
-pub use Rattle.steps_events.specs.Runs.{after}
-pub use Rattle.steps_events.specs.Sights.{goes_on}
-pub use Rattle.steps_events.specs.declared.event.Act.{Act}
-pub use Rattle.steps_events.specs.declared.event.Answer.{Answer}
-pub use Rattle.steps_events.specs.declared.event.Call.{Call}
-pub use Rattle.steps_events.specs.declared.event.Event.{Event}
-pub use Rattle.steps_events.specs.declared.event.Input.{Input}
-pub use Rattle.steps_events.specs.declared.event.Object.{Object}
-pub use Rattle.steps_events.specs.declared.event.StepFault.{StepFault}
-pub use Rattle.steps_events.specs.declared.event.Then.{Then}
-pub use Rattle.steps_events.specs.declared.event.Wake.{Wake}
-pub use Rattle.steps_events.specs.declared.event.Word.{Word}
-pub use Rattle.sync_lines.specs.Call.{name_of, calls_of, named}
-pub use Rattle.sync_lines.specs.Command.{values_written, find, verbs, with_one, with_two, call_if, task_if}
-unfoldable pub use Rattle.sync_lines.specs.Command.{task_of, command_of}
-pub use Rattle.sync_lines.specs.Fault.{line_fault_of, ◌>>=◌, at_line, IsFaultOf}
-unfoldable pub use Rattle.sync_lines.specs.Header.{header_of}
-pub use Rattle.sync_lines.specs.Lexer.{lines_of, words_of, only_two}
-pub use Rattle.sync_lines.specs.Numerals.{Numerals, ReadsItsOwn, ReadsValues, u64_numerals}
-pub use Rattle.sync_lines.specs.ValueTypes.{meaning_of, values_in}
-pub use Rattle.sync_lines.specs.declared.command.Command.{Command}
-pub use Rattle.sync_lines.specs.declared.command.Task.{Task}
-pub use Rattle.sync_lines.specs.declared.fault.FaultyLine.{FaultyLine}
-pub use Rattle.sync_lines.specs.declared.fault.LineFault.{LineFault}
-pub use Rattle.sync_lines.specs.declared.fault.TextFault.{TextFault}
-pub use Rattle.sync_lines.specs.declared.header.Header.{Header}
+pub use Rattle.model_events.specs.Arithmetic.{Arithmetic, IsValue}
+pub use Rattle.model_events.specs.Moves.{CallValues, Move, InputValues}
+pub use Rattle.model_events.specs.Past.{failures_in, call_of, hold_of}
+pub use Rattle.model_events.specs.Runs.{after}
+pub use Rattle.model_events.specs.Sights.{goes_on}
+pub use Rattle.model_events.specs.declared.event.Act.{Act}
+pub use Rattle.model_events.specs.declared.event.Answer.{Answer}
+pub use Rattle.model_events.specs.declared.event.Call.{Call}
+pub use Rattle.model_events.specs.declared.event.Event.{Event}
+pub use Rattle.model_events.specs.declared.event.Input.{Input}
+pub use Rattle.model_events.specs.declared.event.Object.{Object}
+pub use Rattle.model_events.specs.declared.event.StepFault.{StepFault}
+pub use Rattle.model_events.specs.declared.event.Then.{Then}
+pub use Rattle.model_events.specs.declared.event.Wake.{Wake}
+pub use Rattle.model_events.specs.declared.event.Word.{Word}
+pub use Rattle.text_lines.specs.Call.{name_of, calls_of, named}
+pub use Rattle.text_lines.specs.Command.{values_written, find, verbs, with_one, with_two, call_if, task_if}
+unfoldable pub use Rattle.text_lines.specs.Command.{task_of, command_of}
+pub use Rattle.text_lines.specs.Fault.{line_fault_of, ◌>>=◌, at_line, IsFaultOf}
+unfoldable pub use Rattle.text_lines.specs.Header.{header_of}
+pub use Rattle.text_lines.specs.Lexer.{lines_of, words_of, only_two}
+pub use Rattle.text_lines.specs.Numerals.{Numerals, ReadsItsOwn, ReadsValues, u64_numerals}
+pub use Rattle.text_lines.specs.ValueTypes.{meaning_of, values_in}
+pub use Rattle.text_lines.specs.declared.command.Command.{Command}
+pub use Rattle.text_lines.specs.declared.command.Task.{Task}
+pub use Rattle.text_lines.specs.declared.fault.FaultyLine.{FaultyLine}
+pub use Rattle.text_lines.specs.declared.fault.LineFault.{LineFault}
+pub use Rattle.text_lines.specs.declared.fault.TextFault.{TextFault}
+pub use Rattle.text_lines.specs.declared.header.Header.{Header}
 pub use Rattle.sync_steps.specs.Machine.{Configuration, StandsAt, Steps, RefusesStep}
 pub use Rattle.sync_steps.specs.Machine.Strides.{is_quiet, IsQuiet, steps_of, Strides}
 pub use Rattle.sync_steps.specs.Objects.{has_call, table_of}

@@ -3,7 +3,7 @@ ghost use Rattle.sync_play.specs.Law.{OutputsAreRuns, RunsAreOutputs, FaultsAreR
 ghost use Rattle.sync_play.specs.WalkOutput.{WalksAreOutputs};
 ghost use Rattle.sync_play.specs.Calls.{TextsNameCalls, TextsReadCallsBack};
 
-use sync_lines::integer::TextInteger;
+use text_lines::integer::TextInteger;
 
 /// The walk of a text is what is played of it: its output is what the events of the walk's steps print, and its fault is the walk's.
 pub fn walks_are_outputs<T: TextInteger>()

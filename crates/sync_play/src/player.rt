@@ -1,18 +1,18 @@
 //! Plays a command stride by stride.
 ghost use Rattle.std.specs.Prelude.{◌≡◌, ◌<◌, ◌≤◌, ℕ, List, IfOk, OnErr, IfSome};
-ghost use Rattle.steps_events.specs.Sights.{goes_on};
+ghost use Rattle.model_events.specs.Sights.{goes_on};
 ghost use Rattle.sync_steps.specs.Machine.{StandsAt};
 ghost use Rattle.sync_steps.specs.Machine.Strides.{IsQuiet};
-ghost use Rattle.steps_events.specs.declared.event.Event.{Event as AnEvent};
-ghost use Rattle.steps_events.specs.declared.event.Object.{Object as AnObject};
+ghost use Rattle.model_events.specs.declared.event.Event.{Event as AnEvent};
+ghost use Rattle.model_events.specs.declared.event.Object.{Object as AnObject};
 ghost use Rattle.sync_play.specs.Player.{steps_left, left_after};
 ghost use Rattle.sync_play.specs.Walk as meaning;
 
+use model_events::atomic::internal::AtomicInteger;
 use std::alloc::Allocator;
-use steps_events::atomic::internal::AtomicInteger;
-use sync_lines::command::{Command, Task};
-use sync_lines::fault::LineFault;
 use sync_steps::steps::{Machine, Stride, Then};
+use text_lines::command::{Command, Task};
+use text_lines::fault::LineFault;
 
 /// Whether a call goes on by itself.
 #[inline(always)]

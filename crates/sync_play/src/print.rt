@@ -1,14 +1,14 @@
 //! What an event prints, and the last line.
 ghost use Rattle.std.specs.Prelude.{◌≡◌, ◌++◌, ℕ, List, OnOk, string_bytes};
-ghost use Rattle.steps_events.specs.declared.event.Event.{Event as AnEvent};
-ghost use Rattle.steps_events.specs.declared.event.Object.{Object as AnObject};
+ghost use Rattle.model_events.specs.declared.event.Event.{Event as AnEvent};
+ghost use Rattle.model_events.specs.declared.event.Object.{Object as AnObject};
 ghost use Rattle.sync_steps.specs.Machine.{StandsAt};
 ghost use Rattle.sync_steps.specs.Runs.{word_in};
 ghost use Rattle.sync_play.specs.Print.{answer_words, party_words, wake_line, then_line, event_lines, further_words, last_line};
 
 use std::alloc::{AllocError, Allocator};
-use sync_lines::integer::TextInteger;
 use sync_steps::steps::{Act, Answer, Event, Machine, Object, Then, Wake};
+use text_lines::integer::TextInteger;
 
 /// Prints what a call answers.
 pub fn print_answer<T: TextInteger, A: Allocator>(

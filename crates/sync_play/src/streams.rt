@@ -6,7 +6,7 @@ ghost use Rattle.sync_play.specs.Run.{HasRead, HasPlayed, HasBegun, TellsFault, 
 use crate::text::play_text;
 use std::alloc::Allocator;
 use std::io::{Read, Write};
-use sync_lines::fault::RunFault;
+use text_lines::fault::RunFault;
 
 /// How many bytes are read at once.
 const CHUNK: usize = 4096;

@@ -1,21 +1,21 @@
 //! Walks a text step by step.
 ghost use Rattle.std.specs.Prelude.{◌≡◌, ◌+◌, ◌^◌, ◌<◌, ℕ, true, List, length, Ok, Err, IfOk, IfErr, IfSome, ⊤};
 ghost use Rattle.sync_steps.specs.Machine.{StandsAt};
-ghost use Rattle.steps_events.specs.declared.event.Event.{Event as AnEvent};
-ghost use Rattle.steps_events.specs.declared.event.Object.{Object as AnObject};
+ghost use Rattle.model_events.specs.declared.event.Event.{Event as AnEvent};
+ghost use Rattle.model_events.specs.declared.event.Object.{Object as AnObject};
 ghost use Rattle.sync_steps.specs.Machine.Strides.{IsQuiet};
-ghost use Rattle.sync_lines.specs.Lexer.{lines_of, words_of};
+ghost use Rattle.text_lines.specs.Lexer.{lines_of, words_of};
 ghost use Rattle.sync_play.specs.Player.{steps_left};
 ghost use Rattle.sync_play.specs.Walk as meaning;
 
 use crate::player::next_events;
 use std::alloc::{AllocError, Allocator};
-use sync_lines::command::{Command, Task};
-use sync_lines::fault::{FaultyLine, LineFault};
-use sync_lines::header::Header;
-use sync_lines::integer::TextInteger;
-use sync_lines::lexer::next_line;
 use sync_steps::steps::{Event, Machine, Object};
+use text_lines::command::{Command, Task};
+use text_lines::fault::{FaultyLine, LineFault};
+use text_lines::header::Header;
+use text_lines::integer::TextInteger;
+use text_lines::lexer::next_line;
 
 /// An event, and the line that asked for it, counted from 1.
 #[derive(Copy)]

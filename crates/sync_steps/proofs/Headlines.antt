@@ -1,19 +1,19 @@
--- The headline holds at every front of every run, and a word that an object does not have is 0.
-use Rattle.sync_steps.specs.Names.{Event, Input, Object, Word, Arithmetic, same_word, AtEveryFront, mutex_table, spin_table, semaphore_table, semaphore_opening, barrier_table, rw_reader_table, rw_writer_table, condvar_table, once_table, lazy_table, atomic_table, atomic_opening}
+-- The headline holds at every prefix of every run, and a word that an object does not have is 0.
+use Rattle.sync_steps.specs.Names.{Event, Input, Object, Word, Arithmetic, same_word, AtEveryPrefix, mutex_table, spin_table, semaphore_table, semaphore_opening, barrier_table, rw_reader_table, rw_writer_table, condvar_table, once_table, lazy_table, atomic_table, atomic_opening}
 use Rattle.sync_steps.proofs.Names.{◌≡◌, ◌∙◌, ℕ, false, refl, sym, subst, List, [], ◌∷◌, lacked_word}
-use Rattle.steps_mutex.proofs.Laws.{keeps_mutex, mutex_lacks}
-use Rattle.steps_spin.proofs.Laws.{keeps_spin, spin_lacks}
-use Rattle.steps_semaphore.proofs.Laws.{keeps_semaphore, semaphore_lacks}
-use Rattle.steps_barrier.proofs.Laws.{keeps_barrier, barrier_lacks}
-use Rattle.steps_rw_reader.proofs.Laws.{rw_reader_lacks}
-use Rattle.steps_rw_reader.proofs.AnswerLaws.{keeps_rw_reader}
-use Rattle.steps_rw_writer.proofs.Laws.{rw_writer_lacks}
-use Rattle.steps_rw_writer.proofs.Causes.{keeps_rw_writer}
-use Rattle.steps_condvar.proofs.Laws.{keeps_condvar, condvar_lacks}
-use Rattle.steps_once.proofs.Laws.{keeps_once, once_lacks}
-use Rattle.steps_lazy.proofs.Laws.{keeps_lazy, lazy_lacks}
-use Rattle.steps_atomic.proofs.Data.{keeps_atomic}
-use Rattle.steps_atomic.proofs.Laws.{atomic_lacks}
+use Rattle.model_mutex.proofs.Laws.{keeps_mutex, mutex_lacks}
+use Rattle.model_spin.proofs.Laws.{keeps_spin, spin_lacks}
+use Rattle.model_semaphore.proofs.Laws.{keeps_semaphore, semaphore_lacks}
+use Rattle.model_barrier.proofs.Laws.{keeps_barrier, barrier_lacks}
+use Rattle.model_rw_reader.proofs.Laws.{rw_reader_lacks}
+use Rattle.model_rw_reader.proofs.AnswerLaws.{keeps_rw_reader}
+use Rattle.model_rw_writer.proofs.Laws.{rw_writer_lacks}
+use Rattle.model_rw_writer.proofs.Causes.{keeps_rw_writer}
+use Rattle.model_condvar.proofs.Laws.{keeps_condvar, condvar_lacks}
+use Rattle.model_once.proofs.Laws.{keeps_once, once_lacks}
+use Rattle.model_lazy.proofs.Laws.{keeps_lazy, lazy_lacks}
+use Rattle.model_atomic.proofs.Data.{keeps_atomic}
+use Rattle.model_atomic.proofs.Laws.{atomic_lacks}
 use Rattle.sync_steps.specs.Objects.{has_word}
 use Rattle.sync_steps.specs.Runs.{word_in, IsNext, IsPast, IsRun}
 use Rattle.sync_steps.specs.Law.{Headline}
@@ -30,18 +30,18 @@ headline z Object.Once parties past run = keeps_once z parties past run.1
 headline z (Object.Lazy v) parties past run = keeps_lazy z v parties past run.1
 headline z (Object.Atomic v) parties past run = keeps_atomic z run.0.1 v parties past run.0.0 run.1
 
--- at every front of a run that goes on from a past
-pub fronts :
+-- at every prefix of a run that goes on from a past
+pub prefixes :
     {T : Type 0} (z : Arithmetic T) (o : Object T) (parties : ℕ) (past : List (Event T)) (schedule : List (ℕ × Input T)) (events : List (Event T)) →
-    IsPast z o parties past → IsRun z o parties past schedule events → AtEveryFront (Headline z o) past events
-fronts z o parties past [] [] run goes = headline z o parties past run
-fronts z o parties past (turn ∷ schedule) (e ∷ events) run goes =
-    (headline z o parties past run, fronts z o parties (e ∷ past) schedule events (next_past goes.0) goes.1)
+    IsPast z o parties past → IsRun z o parties past schedule events → AtEveryPrefix (Headline z o) past events
+prefixes z o parties past [] [] run goes = headline z o parties past run
+prefixes z o parties past (turn ∷ schedule) (e ∷ events) run goes =
+    (headline z o parties past run, prefixes z o parties (e ∷ past) schedule events (next_past goes.0) goes.1)
   where
     next_past : IsNext z o parties past turn.0 turn.1 e → IsPast z o parties (e ∷ past)
     next_past next = (run.0, ((turn.1, subst (λ p. IsNext z o parties past p turn.1 e) (sym next.party_is) next), run.1))
-fronts z o parties past [] (e ∷ events) run goes = absurd goes
-fronts z o parties past (turn ∷ schedule) [] run goes = absurd goes
+prefixes z o parties past [] (e ∷ events) run goes = absurd goes
+prefixes z o parties past (turn ∷ schedule) [] run goes = absurd goes
 
 -- The words that an object does not have.
 

@@ -3,7 +3,7 @@ use Rattle.sync_steps.specs.Names.{Event, Input, Object, StepFault, Arithmetic, 
 use Rattle.sync_steps.proofs.Names.{◌≡◌, ℕ, ◌+◌, ◌<◌, refl, sym, ◌∙◌, ap, subst, List, [], ◌∷◌, ◌++◌, length, take, get_or, Some, slice_get, slice_get-get_or, take_more}
 use Rattle.sync_steps.specs.Runs.{fault_of, IsNext, IsRun}
 use Rattle.sync_steps.specs.Machine.{Configuration, StandsAt, Steps, Continues, Plays, PlaysUpTo}
-use Rattle.sync_steps.proofs.Headlines.{headline, fronts}
+use Rattle.sync_steps.proofs.Headlines.{headline, prefixes}
 
 run_more :
     {T : Type 0} (z : Arithmetic T) (o : Object T) (parties : ℕ) (past : List (Event T)) (schedule : List (ℕ × Input T)) (events : List (Event T)) (input : ℕ × Input T) (e : Event T) →
@@ -19,7 +19,7 @@ after_more (d ∷ events) e past = after_more events e (d ∷ past)
 
 -- nothing is played yet
 pub plays_none : {T : Type 0} (z : Arithmetic T) (m : Configuration T) → Plays z [] m [] m
-plays_none z m o parties past at = record { run = tt; stands = at; fronts = headline z o parties past at.run }
+plays_none z m o parties past at = record { run = tt; stands = at; prefixes = headline z o parties past at.run }
 
 plays_more :
     {T : Type 0} (z : Arithmetic T) (schedule : List (ℕ × Input T)) (old mid new : Configuration T) (events : List (Event T)) (input : ℕ × Input T) (e : Event T) →
@@ -31,7 +31,7 @@ plays_more {T} z schedule old mid new events input e plays steps o parties past 
     record {
       run = run;
       stands = subst (λ (p : List (Event T)). StandsAt z o parties p new) (sym (after_more events e past)) one.1;
-      fronts = fronts z o parties past (schedule ++ input ∷ []) (events ++ e ∷ []) at.run run;
+      prefixes = prefixes z o parties past (schedule ++ input ∷ []) (events ++ e ∷ []) at.run run;
     }
 
 -- one more input of the schedule is played

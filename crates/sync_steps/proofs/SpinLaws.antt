@@ -1,7 +1,7 @@
 -- A step that spins leads to the place with one more spin, and does the same to the words.
 use Rattle.sync_steps.specs.Names.{HoldKind, Patience, After, refused, within, MutexPlace, is_free, mutex_after, SpinPlace, SemaphorePlace, semaphore_after, BarrierPlace, epoch_of, barrier_after, RwReaderPlace, rw_reader_after, lets_readers_in_free, RwWriterPlace, rw_writer_after, lets_readers_in, lets_writer_in, lets_mark, spins, CondvarPlace, condvar_after, permitted, relocked, OncePlace, once_after, LazyPlace, lazy_after, reads_next, Arithmetic}
 use Rattle.sync_steps.proofs.Names.{◌≡◌, ℕ, ◌+◌, ◌-◌, ◌^◌, ◌<◌, ◌==◌, min, Bool, true, false, cond, Option, unwrap_or, refl, ap, arith, lt-ltb}
-use Rattle.steps_spin.specs.Table as spin_table
+use Rattle.model_spin.specs.Table as spin_table
 use Rattle.sync_steps.specs.declared.steps.place.Place.{Place}
 use Rattle.sync_steps.specs.Machine.Places.{intent_at, after_at}
 use Rattle.sync_steps.specs.Machine.Spins.{spins_left, mutex_spins, spin_spins, semaphore_spins, barrier_spins, rw_reader_spins, rw_writer_spins, condvar_spins, once_spins, lazy_spins, spins_at, spun, mutex_spun, semaphore_spun, barrier_spun, rw_reader_spun, rw_writer_spun, condvar_spun, spun_at}

@@ -2,8 +2,8 @@
 use Rattle.sync_steps.specs.Names.{ForSome, replicate, Event, Input, Object, StepFault, Act, Then, Word, HoldKind, word_at, Arithmetic, PendingCall, call_of, call_after, hold_of, hold_after, word_after, failures_in, event, InputValues, fault_at, Table}
 use Rattle.sync_steps.proofs.Names.{◌≡◌, ◌≢◌, ℕ, zero, suc, ◌<◌, ◌≤◌, refl, sym, ◌∙◌, ap, subst, List, [], ◌∷◌, length, false, Option, Some, None, Result, Ok, Err, IfOk, IfErr, ◌⊎◌, inl, inr, slice_get, slice_set, get_or, Bool, true, cond, nat_lt, arith, slice_get-get_or, lt-ltb, ltb-true, eqb_tells, length-set, length-replicate, set-get_or, call_of_same, call_of_other, hold_of_same, hold_of_other}
 use std.Path.{fun_ext}
-use Rattle.steps_events.specs.Moves as moves
-use Rattle.steps_events.specs.Runs as runs
+use Rattle.model_events.specs.Moves as moves
+use Rattle.model_events.specs.Runs as runs
 use Rattle.sync_steps.specs.declared.steps.place.Doing.{Doing}
 use Rattle.sync_steps.specs.declared.steps.place.Party.{Party}
 use Rattle.sync_steps.specs.Machine.Turns.{Turn}

@@ -161,10 +161,10 @@ plays_first : {T : Type 0} (z : Arithmetic T) (party : ℕ) (input : Input T) (e
 plays_first z party input e schedule events old mid new steps plays o parties past at =
     let one = steps o parties past at in
     let rest = plays o parties (e ∷ past) one.1 in
-    record { run = (one.0, rest.run); stands = rest.stands; fronts = (headline z o parties past at.run, rest.fronts) }
+    record { run = (one.0, rest.run); stands = rest.stands; prefixes = (headline z o parties past at.run, rest.prefixes) }
 
 plays_none : {T : Type 0} (z : Arithmetic T) (m : Configuration T) → Plays z [] m [] m
-plays_none z m o parties past at = record { run = tt; stands = at; fronts = headline z o parties past at.run }
+plays_none z m o parties past at = record { run = tt; stands = at; prefixes = headline z o parties past at.run }
 
 -- the machine after one try
 tried : {T : Type 0} → ℕ → Party T → Doing T → Act T → ℕ → Configuration T → Configuration T

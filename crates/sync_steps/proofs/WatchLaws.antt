@@ -1,9 +1,9 @@
 -- What a wait closure is told is what its call saw last of the word that it watches.
 use Rattle.sync_steps.specs.Names.{MatchOption, WaitAction, Act, Call, Event, Object, Then, Word, HoldKind, Patience, After, Arithmetic, Move, stage_of, stage_after, next_stage, seen_by, PendingCall, call_of, call_after, call_going_on, hold_of, word_in, event, carried_out, value_told, outcome_of, place_after, sight_of, is_sight, last_of, Table, RwWriterPlace, rw_writer_table, rw_writer_intent, rw_writer_after, rw_writer_begins, rw_writer_answered, last_look, CondvarPlace, condvar_table, condvar_intent, condvar_after, refused_by, SpinPlace, spin_after, OncePlace, once_after, LazyPlace, lazy_after, AtomicPlace, atomic_after}
 use Rattle.sync_steps.proofs.Names.{◌≡◌, refl, sym, ◌∙◌, ap, subst, ℕ, true, cond, is_some, List, [], ◌∷◌, Option, Some, None, ◌⊎◌, inl, inr, arith, nat_tests, some_same, call_of_same, by_move, carried_goes_on, carried_stage}
-use Rattle.steps_events.specs.Asks.{Refusing, WhereAsked, TellsRefusal, sight_at}
-use Rattle.steps_events.specs.Runs as runs
-use Rattle.steps_events.proofs.Parties.{IsKept, at_place}
+use Rattle.model_events.specs.Asks.{Refusing, WhereAsked, TellsRefusal, sight_at}
+use Rattle.model_events.specs.Runs as runs
+use Rattle.model_events.proofs.Parties.{IsKept, at_place}
 use Rattle.sync_steps.specs.declared.steps.place.Place.{Place}
 use Rattle.sync_steps.specs.Objects.{table_of}
 use Rattle.sync_steps.specs.Runs.{IsPast}

@@ -1,15 +1,15 @@
--- What holds at every front of every run.
+-- What holds at every prefix of every run.
 use Rattle.sync_steps.specs.Names.{ℕ, List, Call, Event, Object, Arithmetic, CondvarCause, CondvarLaw}
-use Rattle.steps_events.specs.Laws.{Keeps}
-use Rattle.steps_mutex.specs.Law.{MutexCause, MutexLaw}
-use Rattle.steps_spin.specs.Law.{SpinCause, SpinLaw}
-use Rattle.steps_semaphore.specs.Law.{SemaphoreCause, SemaphoreLaw}
-use Rattle.steps_barrier.specs.Law.{BarrierCause, BarrierLaw}
-use Rattle.steps_rw_reader.specs.Law.{RwReaderCause, RwReaderLaw}
-use Rattle.steps_rw_writer.specs.Law.{RwWriterCause, RwWriterLaw}
-use Rattle.steps_once.specs.Law.{OnceCause, OnceLaw}
-use Rattle.steps_lazy.specs.Law.{LazyCause, LazyLaw}
-use Rattle.steps_atomic.specs.Law.{AtomicCause, AtomicLaw}
+use Rattle.model_events.specs.Laws.{Keeps}
+use Rattle.model_mutex.specs.Law.{MutexCause, MutexLaw}
+use Rattle.model_spin.specs.Law.{SpinCause, SpinLaw}
+use Rattle.model_semaphore.specs.Law.{SemaphoreCause, SemaphoreLaw}
+use Rattle.model_barrier.specs.Law.{BarrierCause, BarrierLaw}
+use Rattle.model_rw_reader.specs.Law.{RwReaderCause, RwReaderLaw}
+use Rattle.model_rw_writer.specs.Law.{RwWriterCause, RwWriterLaw}
+use Rattle.model_once.specs.Law.{OnceCause, OnceLaw}
+use Rattle.model_lazy.specs.Law.{LazyCause, LazyLaw}
+use Rattle.model_atomic.specs.Law.{AtomicCause, AtomicLaw}
 use Rattle.sync_steps.specs.Objects.{table_of}
 
 -- why a call of the object was refused, by the events up to its answer

@@ -1,6 +1,6 @@
 -- What contracts see of a machine, when a run stands at it, and what its calls promise.
-use Rattle.sync_steps.specs.Names.{◌≡◌, ℕ, ◌-◌, ◌^◌, ◌<◌, min, List, ◌∷◌, length, take, Option, Some, slice_get, false, ForSome, Event, Input, Object, StepFault, Word, HoldKind, Arithmetic, call_of, hold_of, failures_in, after, AtEveryFront, word_at}
-use Rattle.steps_events.specs.declared.words.Words.{Words}
+use Rattle.sync_steps.specs.Names.{◌≡◌, ℕ, ◌-◌, ◌^◌, ◌<◌, min, List, ◌∷◌, length, take, Option, Some, slice_get, false, ForSome, Event, Input, Object, StepFault, Word, HoldKind, Arithmetic, call_of, hold_of, failures_in, after, AtEveryPrefix, word_at}
+use Rattle.model_events.specs.declared.words.Words.{Words}
 use Rattle.sync_steps.specs.declared.steps.fault.PlayFault.{PlayFault}
 use Rattle.sync_steps.specs.declared.steps.place.Party.{Party}
 use Rattle.sync_steps.specs.Objects.{table_of, has_word}
@@ -70,11 +70,11 @@ RefusesStep z old party input fault = ForRunAt z old (λ o parties past. fault_o
 abbrev pub KeepsHeadline : {T : Type 0} → Arithmetic T → Configuration T → Event T → Type 0
 KeepsHeadline z old event = ForRunAt z old (λ o parties past. Headline z o (event ∷ past))
 
--- after this past the events are the run of the schedule, it stands at the machine, and the headline holds at every front
+-- after this past the events are the run of the schedule, it stands at the machine, and the headline holds at every prefix
 pub record Continues {T : Type 0} (z : Arithmetic T) (o : Object T) (parties : ℕ) (past : List (Event T)) (schedule : List (ℕ × Input T)) (events : List (Event T)) (new : Configuration T) : Type 0 where
   pub run : IsRun z o parties past schedule events
   pub stands : StandsAt z o parties (after events past) new
-  pub fronts : AtEveryFront (Headline z o) past events
+  pub prefixes : AtEveryPrefix (Headline z o) past events
 
 -- the whole schedule was played, whatever run stood at the machine before
 abbrev pub Plays : {T : Type 0} → Arithmetic T → List (ℕ × Input T) → Configuration T → List (Event T) → Configuration T → Type 0

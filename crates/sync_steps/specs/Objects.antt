@@ -1,6 +1,6 @@
 -- What each object is: its places and its table of steps, what it may be opened with, and the words and the calls that it has.
 use Rattle.sync_steps.specs.Names.{◌<◌, ◌^◌, Bool, true, false, Call, Object, Word, Arithmetic, IsValue, IsClosed, Table, MutexPlace, mutex_table, SpinPlace, spin_table, SemaphorePlace, semaphore_table, BarrierPlace, barrier_table, RwReaderPlace, rw_reader_table, RwWriterPlace, rw_writer_table, CondvarPlace, condvar_table, OncePlace, once_table, LazyPlace, lazy_table, AtomicPlace, atomic_table}
-use Rattle.steps_events.specs.declared.event.Wake.{Wake}
+use Rattle.model_events.specs.declared.event.Wake.{Wake}
 
 abbrev pub place_of : {T : Type 0} → Object T → Type 0
 place_of Object.Mutex = MutexPlace

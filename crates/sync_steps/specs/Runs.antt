@@ -1,8 +1,8 @@
 -- Runs of an object: those of its table, where what it is opened with is a value of its type.
 use Rattle.sync_steps.specs.Names.{ℕ, List, Option, Event, Input, Object, StepFault, Word, Arithmetic, Hold, Move}
-use Rattle.steps_events.specs.Past as pasts
-use Rattle.steps_events.specs.Moves as moves
-use Rattle.steps_events.specs.Runs as runs
+use Rattle.model_events.specs.Past as pasts
+use Rattle.model_events.specs.Moves as moves
+use Rattle.model_events.specs.Runs as runs
 use Rattle.sync_steps.specs.Objects.{table_of, IsObject}
 
 -- what a word holds after the events

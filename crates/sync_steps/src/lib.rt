@@ -3,4 +3,4 @@
 
 pub mod steps;
 
-pub use steps_events::{SPIN_REPETITIONS, WaitAction, atomic};
+pub use model_events::{SPIN_REPETITIONS, WaitAction, atomic};

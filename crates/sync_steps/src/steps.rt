@@ -16,9 +16,9 @@ mod spins;
 pub mod turn;
 
 pub use fault::PlayFault;
-pub use headline::{at_every_front, closures_watch_what_they_are_told, each_call_can_begin};
+pub use headline::{at_every_prefix, closures_watch_what_they_are_told, each_call_can_begin};
 pub use machine::{Machine, Stride};
-pub use playing::play;
-pub use steps_events::event::{
+pub use model_events::event::{
     Act, Answer, Call, Event, Input, Object, StepFault, Then, Wake, Word,
 };
+pub use playing::play;

@@ -7,7 +7,7 @@
 
 use std::io::Write;
 use std::process::ExitCode;
-use sync_trace::run::run;
+use text_trace::run::run;
 
 fn main(rt: HostRuntime) -> ExitCode {
     match run(rt.alloc(), &mut rt.stdin(), &mut rt.stdout()) {

@@ -3,4 +3,4 @@
 pub use running_barrier::{
     Barrier, BarrierFull, BarrierPass, arrivals_are_of_a_run, open_rounds_are_full,
 };
-pub use tallies::{Arrivals, Rounds};
+pub use running_tallies::{Arrivals, Rounds};

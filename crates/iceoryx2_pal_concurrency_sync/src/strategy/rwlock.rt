@@ -8,4 +8,4 @@ pub use running_rw_writer::{
     RwLockWriterPreference, RwWriterPass, grants_are_of_a_run, no_hold_beside_the_writer,
     no_mark_without_a_flag,
 };
-pub use tallies::{Held, Known, MarkedHolds};
+pub use running_tallies::{Held, Known, MarkedHolds};

@@ -1,4 +1,4 @@
 //! A counting semaphore.
 
 pub use running_semaphore::{SemPass, Semaphore, permits_are_of_a_run};
-pub use tallies::Permits;
+pub use running_tallies::Permits;

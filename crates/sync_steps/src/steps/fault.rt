@@ -1,5 +1,5 @@
+use model_events::event::{Event, StepFault};
 use std::alloc::{Allocator, Global};
-use steps_events::event::{Event, StepFault};
 
 /// Why a schedule was not played to its end.
 #[derive(Drop)]

@@ -1,25 +1,25 @@
 ghost use Rattle.std.specs.Prelude.{◌≡◌, ◌<◌, true, [], length, IfOk, IfErr, OnErr};
-ghost use Rattle.steps_events.specs.declared.event.Input.TheVariants as inputs;
-ghost use Rattle.steps_events.specs.declared.event.Word.TheVariants as words;
-ghost use Rattle.steps_events.specs.Past.{event};
+ghost use Rattle.model_events.specs.declared.event.Input.TheVariants as inputs;
+ghost use Rattle.model_events.specs.declared.event.Word.TheVariants as words;
+ghost use Rattle.model_events.specs.Past.{event};
 ghost use Rattle.sync_steps.specs.Objects.{IsObject};
 ghost use Rattle.sync_steps.specs.Machine.{StandsAt, TellsObject, Tells, IsNoneWithout, TellsFailed, TellsHold, Steps, RefusesStep, KeepsHeadline};
 ghost use Rattle.sync_steps.specs.Machine.Applies.{HasWritten, HasTurned, HasRefused};
 ghost use Rattle.sync_steps.specs.Machine.Places.{opening_at};
-ghost use Rattle.steps_events.specs.declared.event.Word.{Word as AnyWord};
-ghost use Rattle.steps_events.specs.WordsAt.{word_at};
+ghost use Rattle.model_events.specs.declared.event.Word.{Word as AnyWord};
+ghost use Rattle.model_events.specs.WordsAt.{word_at};
 
 mod stride;
 
 use super::place::Party;
 use super::turn;
+use model_events::WaitAction;
+use model_events::atomic::internal::AtomicInteger;
+use model_events::event::{Act, Call, Event, Input, Object, StepFault, Then};
+use model_events::hold::HoldKind;
+use model_events::words::{Words, failed_after};
 use std::alloc::{AllocError, Allocator, Global};
 use std::marker::Model;
-use steps_events::WaitAction;
-use steps_events::atomic::internal::AtomicInteger;
-use steps_events::event::{Act, Call, Event, Input, Object, StepFault, Then};
-use steps_events::hold::HoldKind;
-use steps_events::words::{Words, failed_after};
 pub use stride::Stride;
 
 /// One object and its parties, numbered from 0, each with at most one call under way and at most one hold.
@@ -134,7 +134,7 @@ impl<T: AtomicInteger, A: Allocator> Machine<T, A> {
         ensures fault { IfErr result (RefusesStep T.arithmetic self.old party input) }
         ensures err { OnErr result (self.new ≡ self.old) }
 
-        // What holds at every front of every run holds after the event.
+        // What holds at every prefix of every run holds after the event.
         ensures headline { IfOk result (KeepsHeadline T.arithmetic self.old) }
     {
         if party >= self.parties.len() {
@@ -234,7 +234,7 @@ fn opened<T: AtomicInteger>(object: &Object<T>) -> Words
         }
         Object::Lazy(value) => turn::read_value(*value),
         Object::Atomic(value) => {
-            steps_atomic::closed::<T>();
+            model_atomic::closed::<T>();
             low_high = (*value).to_words();
         }
         Object::Mutex

@@ -1,3 +1,3 @@
 //! The mutex: its word is 0 where it is free and 1 where it is locked.
 
-pub use steps_mutex::granted;
+pub use model_mutex::granted;

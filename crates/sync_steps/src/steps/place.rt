@@ -1,25 +1,25 @@
 //! Where the parties of a machine are, and which primitive's row that is.
 ghost use Rattle.std.specs.Prelude.{◌≡◌, true, is_some, ⊤};
-ghost use Rattle.steps_events.specs.declared.event.Object.TheVariants as objects;
+ghost use Rattle.model_events.specs.declared.event.Object.TheVariants as objects;
 ghost use Rattle.sync_steps.specs.Objects.{has_call as listed_call, is_rw_call as rw_call, is_register_call as register_call, wants_hold, has_word, woken_word};
 ghost use Rattle.sync_steps.specs.Machine.Places.{begins_at, intent_at, after_at, answered_at, chosen_at, grant_at, needs_hold_at, watched_word};
 
+use model_atomic::AtomicPlace;
+use model_barrier::BarrierPlace;
+use model_condvar::CondvarPlace;
+use model_events::WaitAction;
+use model_events::atomic::internal::AtomicInteger;
+use model_events::event::{Call, Object, Wake, Word};
+use model_events::hold::HoldKind;
+use model_events::row::{After, Intent};
+use model_lazy::LazyPlace;
+use model_mutex::MutexPlace;
+use model_once::OncePlace;
+use model_rw_reader::RwReaderPlace;
+use model_rw_writer::RwWriterPlace;
+use model_semaphore::SemaphorePlace;
+use model_spin::SpinPlace;
 use std::alloc::AllocError;
-use steps_atomic::AtomicPlace;
-use steps_barrier::BarrierPlace;
-use steps_condvar::CondvarPlace;
-use steps_events::WaitAction;
-use steps_events::atomic::internal::AtomicInteger;
-use steps_events::event::{Call, Object, Wake, Word};
-use steps_events::hold::HoldKind;
-use steps_events::row::{After, Intent};
-use steps_lazy::LazyPlace;
-use steps_mutex::MutexPlace;
-use steps_once::OncePlace;
-use steps_rw_reader::RwReaderPlace;
-use steps_rw_writer::RwWriterPlace;
-use steps_semaphore::SemaphorePlace;
-use steps_spin::SpinPlace;
 
 /// Where a party is in its call: a place of its object's primitive.
 #[derive(Copy)]
@@ -198,12 +198,12 @@ pub fn grant<T: AtomicInteger>(
     ensures { result ≡ grant_at T.arithmetic object.now call.now from to }
 {
     match object {
-        Object::Mutex => steps_mutex::grant(call),
-        Object::Spin => steps_spin::grant(call),
-        Object::ReaderLock => steps_rw_reader::grant(call),
-        Object::WriterLock => steps_rw_writer::grant(call, from, to),
-        Object::Condvar => steps_condvar::grant(call),
-        Object::Atomic(_) => steps_atomic::grant(call),
+        Object::Mutex => model_mutex::grant(call),
+        Object::Spin => model_spin::grant(call),
+        Object::ReaderLock => model_rw_reader::grant(call),
+        Object::WriterLock => model_rw_writer::grant(call, from, to),
+        Object::Condvar => model_condvar::grant(call),
+        Object::Atomic(_) => model_atomic::grant(call),
         Object::Semaphore(_) | Object::Barrier(_) | Object::Once | Object::Lazy(_) => None,
     }
 }
@@ -300,8 +300,8 @@ pub fn woken_word<T>(object: &Object<T>, call: &Call<T>, wake: Wake) -> Word
     ensures has { has_word object.now result ≡ true }
 {
     match object {
-        Object::WriterLock => steps_rw_writer::woken_word(wake),
-        Object::Condvar => steps_condvar::woken_word(call),
+        Object::WriterLock => model_rw_writer::woken_word(wake),
+        Object::Condvar => model_condvar::woken_word(call),
         Object::Mutex
         | Object::Spin
         | Object::Semaphore(_)

@@ -3,9 +3,9 @@ ghost use Rattle.sync_steps.specs.Machine.{Plays, Refuses};
 
 use super::fault::PlayFault;
 use super::machine::Machine;
+use model_events::atomic::internal::AtomicInteger;
+use model_events::event::{Event, Input};
 use std::alloc::Allocator;
-use steps_events::atomic::internal::AtomicInteger;
-use steps_events::event::{Event, Input};
 
 /// Plays a schedule, one event for each input, in order.
 ///

@@ -1,3 +1,3 @@
 //! The reader-preferring lock: its word is the number of read holds, or 2^64 - 1 with a write hold.
 
-pub use steps_rw_reader::{reader_enters, reader_leaves, writer_enters};
+pub use model_rw_reader::{reader_enters, reader_leaves, writer_enters};

@@ -1,3 +1,3 @@
 //! The semaphore: its word is the number of permits that are there to take.
 
-pub use steps_semaphore::{posted, taken};
+pub use model_semaphore::{posted, taken};

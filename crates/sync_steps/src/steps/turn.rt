@@ -1,17 +1,17 @@
 //! One turn of a party: what an input makes it do.
 ghost use Rattle.std.specs.Prelude.{◌≡◌};
-ghost use Rattle.steps_events.specs.WordsAt.{word_at};
-ghost use Rattle.steps_events.specs.Arithmetic.{IsValue};
-ghost use Rattle.steps_events.specs.Moves.{is_locking, CallValues, InputValues};
+ghost use Rattle.model_events.specs.WordsAt.{word_at};
+ghost use Rattle.model_events.specs.Arithmetic.{IsValue};
+ghost use Rattle.model_events.specs.Moves.{is_locking, CallValues, InputValues};
 ghost use Rattle.sync_steps.specs.Machine.Turns.{new_hold, moved_on, begin_turn, go_turn, answer_turn, choose_turn, TurnsTo};
 
 use super::place::{Closure, Doing, Party, Place, grant, needs_hold};
-use steps_events::WaitAction;
-use steps_events::atomic::internal::AtomicInteger;
-use steps_events::event::{Act, Call, Input, Object, StepFault, Then, Word};
-use steps_events::hold::HoldKind;
-use steps_events::row::After;
-use steps_events::words::Words;
+use model_events::WaitAction;
+use model_events::atomic::internal::AtomicInteger;
+use model_events::event::{Act, Call, Input, Object, StepFault, Then, Word};
+use model_events::hold::HoldKind;
+use model_events::row::After;
+use model_events::words::Words;
 
 /// Whether the call takes a hold of a lock.
 fn is_locking<T>(call: &Call<T>) -> bool

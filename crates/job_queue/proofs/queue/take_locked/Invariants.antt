@@ -1,7 +1,9 @@
-use Rattle.std.proofs.Common.{◌≡◌}
+use Rattle.std.proofs.Common.{◌≡◌, ℕ}
 use Rattle.running_mutex.specs.MutexShown.{pass_of, borrow_of, HasStayed as HasLockedAtMost}
 use Rattle.running_mutex.specs.CondShown.{HasStayed as HasWaitedAtMost}
-use Rattle.running_spin_lock.specs.SpinShown.{HasStayed as HasSpunAtMost}
+use Rattle.running_mutex.specs.Often.{Often, HasWaitedOften}
+use Rattle.running_spin_lock.specs.SpinShown.{view, HasStayed as HasSpunAtMost}
+use Rattle.job_queue.specs.Locked.{HoldsAfter, GoesToTheState}
 use Rattle.job_queue.proofs.queue.take_locked.Given as goal
 
 abbrev pub invariant-loop : goal.invariant-loop
@@ -10,4 +12,5 @@ invariant-loop g l = record {
   held : HasLockedAtMost (pass_of l.initial.hold) (pass_of l.hold);
   waited : HasWaitedAtMost l.fn.cond_pass l.cond_pass;
   spun : HasSpunAtMost l.fn.pass l.pass;
+  looked : (waits : ℕ) × HoldsAfter waits l.fn.mtx_pass (pass_of l.hold) × Often GoesToTheState waits (view l.fn.pass) (view l.pass) × HasWaitedOften l.fn.queue.changed waits l.fn.cond_pass l.cond_pass;
 }

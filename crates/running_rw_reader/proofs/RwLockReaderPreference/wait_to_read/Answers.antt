@@ -1,6 +1,6 @@
 use Rattle.running_rw_reader.specs.Names.{Call, Answer, HoldKind, IsWhole, all_of, parties_of, WasRefused, rw_reader_model}
 use Rattle.running_rw_reader.proofs.Names.{MatchBool-at_true, ◌≡◌, true, Some, None, MatchBool, ◌∙◌, refl, sym, ap, subst, is_over, either_is_over, asked_on}
-use Rattle.passes.specs.Answers.{HasAsked}
+use Rattle.running_passes.specs.Answers.{HasAsked}
 use Rattle.running_rw_reader.specs.RwReaderParties.{has_hold}
 use Rattle.running_rw_reader.specs.RwReaderSteps.{word_of}
 use Rattle.running_rw_reader.specs.RwReaderShown.{IsShut, HasEnteredToRead, HasPlayed}

@@ -1,6 +1,6 @@
 use Rattle.running_rw_writer.specs.Names.{WaitAction, Pass, object_of, Answered, parties_of, spun}
 use Rattle.running_rw_writer.proofs.Names.{◌<◌, ◌^◌, ◌∙◌, MatchBool, sym, ap, subst, arith}
-use Rattle.passes.proofs.Attempts.{told_of_its_kind}
+use Rattle.running_passes.proofs.Attempts.{told_of_its_kind}
 use Rattle.running_rw_writer.specs.RwWriterSteps.{PlayedRwWriter}
 use Rattle.running_rw_writer.specs.RwWriterParties.{ComesToWrite, ComesToGiveUp}
 use Rattle.running_rw_writer.specs.RwWriterShown.{HasEnteredSeenFree, HasTried}

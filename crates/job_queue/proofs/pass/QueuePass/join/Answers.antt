@@ -1,4 +1,4 @@
-use Rattle.passes.specs.Passes as passes
+use Rattle.running_passes.specs.Passes as passes
 use Rattle.running_mutex.specs.CondShown as conds
 use Rattle.running_spin_lock.specs.SpinShown as spins
 use Rattle.job_queue.specs.QueueShown.{mutex_in, changed_in, state_in}

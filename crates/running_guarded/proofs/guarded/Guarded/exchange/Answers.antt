@@ -1,7 +1,7 @@
 use Rattle.running_guarded.specs.Names.{mutex_model, mutex_lawful}
 use Rattle.running_guarded.proofs.Names.{refl, ◌≡◌, ◌==◌, tries, zero_or_not}
 use Rattle.atomic_table.proofs.Lists.{exchanged}
-use Rattle.playing.proofs.Updates.{either_is}
+use Rattle.running_model.proofs.Updates.{either_is}
 use Rattle.running_mutex.proofs.MutexKeeps.{exchange_grants}
 use Rattle.running_guarded.proofs.guarded.Guarded.exchange.Goals as goal
 

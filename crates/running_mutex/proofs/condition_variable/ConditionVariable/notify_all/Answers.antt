@@ -1,18 +1,9 @@
-use Rattle.running_mutex.specs.Names.{gave}
-use Rattle.running_mutex.proofs.Names.{refl, ◌∙◌, subst}
-use Rattle.playing.specs.Counts.{HasDone}
-use Rattle.running_mutex.specs.CondShown.{permits_in}
-use Rattle.running_mutex.proofs.CondCalls.{gives_none}
+use Rattle.running_mutex.proofs.Names.{refl, ◌∙◌}
+use Rattle.running_mutex.proofs.CondCalls.{notifies, gives_none}
 use Rattle.running_mutex.proofs.condition_variable.ConditionVariable.notify_all.Goals as goal
 
 pub returns-clause-posted : goal.returns-clause-posted
-returns-clause-posted g c = record {
-  waiting = c.waiting-waiting.result;
-  given = record {
-    saw = (c.waiting-waiting.ensures.same, c.waiting-waiting.ensures.told.saw);
-    gave = subst (λ n. HasDone (gave n) (permits_in c.args.pass.now) c.post.new.pass) (c.permits_for.ensures.all refl) c.post.ensures.given;
-  };
-}
+returns-clause-posted g c = notifies _ _ _ _ c.args.pass.now _ c.args.self.now.no_permit (c.permits_for.ensures.all refl) c.waiting-waiting.ensures.saw c.waiting-waiting.ensures.played c.post.ensures.given c.post.ensures.played
 
 pub returns-clause-exact : goal.returns-clause-exact
-returns-clause-exact g c = gives_none _ _ c.args.pass.now _ (c.waiting-waiting.ensures.same, c.waiting-waiting.ensures.told.saw) c.post.ensures.given c.waiting-waiting.ensures.told.alone c.args.pass.now.outside (λ none. c.permits_for.ensures.all refl ∙ none)
+returns-clause-exact g c = gives_none _ _ c.args.pass.now _ c.waiting-waiting.ensures.saw c.post.ensures.given c.waiting-waiting.ensures.none c.args.pass.now.outside (λ none. c.permits_for.ensures.all refl ∙ none)

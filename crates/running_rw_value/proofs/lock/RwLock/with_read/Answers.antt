@@ -1,6 +1,6 @@
 use Rattle.std.proofs.Common.{◌≡◌, ◌∙◌, sym, subst}
-use Rattle.passes.specs.Answers.{HasWoken}
-use Rattle.steps_events.specs.declared.hold.HoldKind.TheVariants as kinds
+use Rattle.running_passes.specs.Answers.{HasWoken}
+use Rattle.model_events.specs.declared.hold.HoldKind.TheVariants as kinds
 use Rattle.running_rw_writer.specs.declared.pass.RwWriterPass.{RwWriterPass}
 use Rattle.running_rw_writer.specs.RwWriterShown.{pass_in, sights_in, HasLeftReading}
 use Rattle.running_rw_value.specs.RwValueShown.{PlaysUnlock}

@@ -1,5 +1,5 @@
 use Rattle.std.proofs.Common.{◌∙◌, refl, sym, subst}
-use Rattle.steps_events.specs.declared.hold.HoldKind.TheVariants as kinds
+use Rattle.model_events.specs.declared.hold.HoldKind.TheVariants as kinds
 use Rattle.running_rw_writer.specs.declared.pass.RwWriterPass.{RwWriterPass}
 use Rattle.running_rw_writer.specs.RwWriterShown.{pass_in, HasLeftWriting}
 use Rattle.running_rw_value.specs.RwValueShown.{PlaysUnlock}

@@ -1,5 +1,0 @@
-use Rattle.closures.proofs.Covered.{none_sleeps_uncounted}
-use Rattle.closures.proofs.sleepers.none_sleeps_uncounted.Goals as goal
-
-pub returns : goal.returns
-returns c = none_sleeps_uncounted

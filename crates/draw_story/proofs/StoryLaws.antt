@@ -1,0 +1,146 @@
+-- A story has the first rows of a text's trace, and the last line of its output.
+use Rattle.std.proofs.Common.{◌≡◌, ℕ, zero, suc, ◌+◌, ◌-◌, ◌<◌, ◌≤◌, min, Result, List, [], ◌∷◌, ◌++◌, length, get_or, map, take, Option, Some, None, Ok, Err, refl, sym, ap, subst, ◌∙◌, arith}
+use Rattle.std.proofs.lemmas.List.{take_more, map-append, length-take, length-take-le, length-append}
+use Rattle.std.proofs.lemmas.Simd.{map-map}
+use Rattle.std.specs.List.{take-map}
+use Rattle.std.specs.Prelude.{string_bytes}
+use Rattle.model_events.specs.declared.event.Event.{Event}
+use Rattle.model_events.specs.declared.event.Object.{Object}
+use Rattle.model_events.specs.Arithmetic.{Arithmetic}
+use Rattle.model_events.specs.Runs.{after}
+use Rattle.sync_steps.specs.Machine.{Configuration, StandsAt}
+use Rattle.text_lines.specs.declared.header.Header.{Header}
+use Rattle.text_lines.specs.Lexer.{lines_of}
+use Rattle.text_lines.specs.Numerals.{Numerals}
+use Rattle.sync_play.specs.Print.{printed, last_line}
+use Rattle.sync_play.specs.Text.{typed_output}
+use Rattle.text_lines.specs.declared.fault.FaultyLine.{FaultyLine}
+use Rattle.sync_play.specs.declared.walk.Rest.{Rest}
+use Rattle.sync_play.specs.WalkOutput.{events_in, output_unless}
+use Rattle.sync_play.specs.Walk.{nothing, opened, rest_walk}
+use Rattle.sync_play.proofs.PlayLaws.{text_walk}
+use Rattle.text_trace.specs.declared.rows.Row.{Row}
+use Rattle.text_trace.specs.Rows.{Entry, entry_of, entries, trimmed}
+use Rattle.text_trace.specs.Trace.{HasAdded, HasPlayed, rows_with, rows_of}
+use Rattle.text_trace.proofs.TraceLaws.{rows_opened}
+use Rattle.draw_story.specs.declared.story.Step.{Step}
+use Rattle.draw_story.specs.Story.{Shown, shown_of, shown_at, kept, number_at_end, left_out, HasOutput}
+use Rattle.draw_story.specs.Title.{title_words}
+
+-- one more of what is made of a list
+pub one_more : {A B C : Type 0} (f : A → C) (g : B → C) (made made' : List A) (from : List B) (i : ℕ) (a : A) (b : B) → i < length from → b ≡ get_or from i b → map f made ≡ map g (take i from) → made' ≡ made ++ a ∷ [] → f a ≡ g b →
+    map f made' ≡ map g (take (i + 1) from)
+one_more {A} {B} {C} f g made made' from i a b below is was push same =
+    ap (map f) push ∙ map-append f made (a ∷ []) ∙ ap (λ (l : List C). l ++ f a ∷ []) was ∙ ap (λ (c : C). map g (take i from) ++ c ∷ []) same
+    ∙ sym (ap (map g) (take_more from i b below ∙ ap (λ (x : B). take i from ++ x ∷ []) (sym is)) ∙ map-append g (take i from) (b ∷ []))
+
+pub has_output : (output : Result (List ℕ) FaultyLine) (last : List ℕ) → (front : List ℕ) × (output ≡ Ok (front ++ last)) → HasOutput output
+has_output output last ends = (ends.0 ++ last, ends.1)
+
+module _ {T : Type 0} where
+  -- The rows that are kept.
+
+  pub keeps : (rows kept : List (Row T)) → kept ≡ take 2000 rows → entries kept ≡ take 2000 (entries rows)
+  keeps rows kept cut = ap entries cut ∙ sym (take-map entry_of 2000 rows)
+
+  pub fills : (rows : List (Row T)) → 2000 < length rows → 2000 ≡ length (take 2000 rows)
+  fills rows above = sym (length-take-le 2000 rows (omega (arith, above)))
+
+  pub kept_fits : (rows kept : List (Row T)) → kept ≡ take 2000 rows → length kept ≤ 2000
+  kept_fits rows kept is = let most : length kept ≡ min 2000 (length rows) = ap length is ∙ length-take 2000 rows in omega (arith, most)
+
+  -- one more row, as a step
+  pub one_more_row :
+      (made made' : List (Step T)) (rows : List (Row T)) (i : ℕ) (step : Step T) (row : Row T) → i < length rows → row ≡ get_or rows i row → (length made ≡ i) × (map shown_of made ≡ map shown_at (entries (take i rows))) → made' ≡ made ++ step ∷ [] →
+      shown_of step ≡ shown_at (entry_of row) → (length made' ≡ i + 1) × (map shown_of made' ≡ map shown_at (entries (take (i + 1) rows)))
+  one_more_row made made' rows i step row below is was push same = (
+    let grown : length made' ≡ length made + 1 = ap length push ∙ length-append made (step ∷ []) in omega (arith, grown, was.0),
+    one_more shown_of (λ (r : Row T). shown_at (entry_of r)) made made' rows i step row below is (was.1 ∙ map-map shown_at entry_of (take i rows)) push same ∙ sym (map-map shown_at entry_of (take (i + 1) rows)),
+  )
+
+  at_end : (rows : List (Entry T)) (row : Entry T) → number_at_end (rows ++ row ∷ []) ≡ row.last
+  at_end [] row = refl
+  at_end (r ∷ []) row = refl
+  at_end (r ∷ next ∷ rows) row = at_end (next ∷ rows) row
+
+  pub ends_at : (rows rest : List (Row T)) (row : Row T) → rows ≡ rest ++ row ∷ [] → row.last ≡ number_at_end (entries rows)
+  ends_at rows rest row is = sym (ap (λ (l : List (Row T)). number_at_end (entries l)) is ∙ ap number_at_end (map-append entry_of rest (row ∷ [])) ∙ at_end (entries rest) (entry_of row))
+
+  pub ends_nowhere : (rows : List (Row T)) → length rows ≡ 0 → 0 ≡ number_at_end (entries rows)
+  ends_nowhere [] none = refl
+  ends_nowhere (row ∷ rows) none = absurd (omega (arith, none))
+
+  pub leaves_out : (rows kept : List (Row T)) (all some : ℕ) → kept ≡ take 2000 rows → all ≡ number_at_end (entries rows) → some ≡ number_at_end (entries kept) → all - some ≡ left_out (entries rows)
+  leaves_out rows kept all some cut e f =
+      rw (e, f, keeps rows kept cut) refl
+
+  -- What is kept of rows, and how many are left out, is the same once they are trimmed.
+
+  pub take_trimmed : (n : ℕ) (rows : List (Entry T)) → take n rows ≡ take n (trimmed n rows)
+  take_trimmed n [] = refl
+  take_trimmed zero (row ∷ rows) = refl
+  take_trimmed (suc n) (row ∷ rows) = ap (λ (l : List (Entry T)). row ∷ l) (take_trimmed n rows)
+
+  end_behind : (n : ℕ) (row next : Entry T) (rows : List (Entry T)) → number_at_end (row ∷ trimmed n (next ∷ rows)) ≡ number_at_end (trimmed n (next ∷ rows))
+  end_behind zero row next [] = refl
+  end_behind zero row next (r ∷ rows) = end_behind zero row r rows
+  end_behind (suc n) row next rows = refl
+
+  end_trimmed : (n : ℕ) (rows : List (Entry T)) → number_at_end rows ≡ number_at_end (trimmed n rows)
+  end_trimmed n [] = refl
+  end_trimmed zero (row ∷ []) = refl
+  end_trimmed zero (row ∷ next ∷ rows) = end_trimmed zero (next ∷ rows)
+  end_trimmed (suc n) (row ∷ []) = refl
+  end_trimmed (suc n) (row ∷ next ∷ rows) = end_trimmed n (next ∷ rows) ∙ sym (end_behind n row next rows)
+
+  pub left_out_trimmed : (rows : List (Entry T)) → left_out rows ≡ left_out (trimmed 2000 rows)
+  left_out_trimmed rows = rw (sym (end_trimmed 2000 rows), sym (take_trimmed 2000 rows)) refl
+
+  -- The titles of steps that are drawn as these rows are.
+  pub titles_told : (steps : List (Step T)) (rows : List (Entry T)) → map shown_of steps ≡ map shown_at rows → map (λ (s : Step T). string_bytes s.title) steps ≡ map title_words rows
+  titles_told steps rows e =
+      sym (map-map (λ (s : Shown T). s.title) shown_of steps) ∙ ap (map (λ (s : Shown T). s.title)) e ∙ map-map (λ (s : Shown T). s.title) shown_at rows
+
+module _ {T : Type 0} (z : Arithmetic T) (numerals : Numerals T) where
+  -- What was told of a text.
+
+  pub stops : (lines : List (List ℕ)) (header : Header T) (rest : Rest T) (old new : List (Row T)) (fault : FaultyLine) → opened numerals (lines) ≡ Ok (header, lines_of rest.lines.now) → rest.line ≡ 1 → rest.left ≡ nothing →
+      (told : Option FaultyLine) → told ≡ Some fault → HasAdded z numerals (Some 2000) header [] (rest_walk z numerals header.object header.parties [] rest) old new told → typed_output z numerals lines ≡ Err fault
+  stops lines header rest old new fault is line left told some added =
+      let bytes = printed numerals (events_in (rest_walk z numerals header.object header.parties [] rest).steps) ++ last_line z numerals header.object (after (events_in (rest_walk z numerals header.object header.parties [] rest).steps) []) in
+      text_walk z numerals lines header rest is line left ∙ ap (λ (f : Option FaultyLine). output_unless f bytes) (sym added.1 ∙ some)
+
+  -- the last line of the output
+  pub ends_output : (lines : List (List ℕ)) (header : Header T) (rest : Rest T) (old new : List (Row T)) (machine : Configuration T) (last : List ℕ) → opened numerals (lines) ≡ Ok (header, lines_of rest.lines.now) → rest.line ≡ 1 → rest.left ≡ nothing →
+      (told : Option FaultyLine) → told ≡ None → HasAdded z numerals (Some 2000) header [] (rest_walk z numerals header.object header.parties [] rest) old new told → HasPlayed z header [] (rest_walk z numerals header.object header.parties [] rest) machine told →
+      ((o : Object T) (parties : ℕ) (past : List (Event T)) → StandsAt z o parties past machine → last ≡ last_line z numerals o past) → (front : List ℕ) × (typed_output z numerals lines ≡ Ok (front ++ last))
+  ends_output lines header rest old new machine last is line left told absent added plays prints =
+      let walk = rest_walk z numerals header.object header.parties [] rest in
+      let front = printed numerals (events_in walk.steps) in
+      let played = subst (λ (f : Option FaultyLine). HasPlayed z header [] walk machine f) absent plays in
+      let line_is : last ≡ last_line z numerals header.object (after (events_in walk.steps) []) = prints header.object header.parties _ played in (
+        front,
+        text_walk z numerals lines header rest is line left ∙ ap (λ (f : Option FaultyLine). output_unless f (front ++ last_line z numerals header.object (after (events_in walk.steps) []))) (sym added.1 ∙ absent)
+            ∙ ap (λ (l : List ℕ). Ok (front ++ l)) (sym line_is),
+      )
+
+  -- the rows that were read are the text's, as far as they are kept
+  rows_are : (lines : List (List ℕ)) (header : Header T) (rest : Rest T) (none rows all : List (Row T)) → opened numerals (lines) ≡ Ok (header, lines_of rest.lines.now) → rest.line ≡ 1 → rest.left ≡ nothing → none ≡ [] →
+      (told : Option FaultyLine) → HasAdded z numerals (Some 2000) header [] (rest_walk z numerals header.object header.parties [] rest) none rows told → all ≡ rows → trimmed 2000 (entries all) ≡ trimmed 2000 (rows_of z numerals lines).rows
+  rows_are lines header rest none rows all is line left empty told added same =
+      let opens = rows_opened z numerals lines header rest is line left in
+      ap (λ (l : List (Row T)). trimmed 2000 (entries l)) same ∙ added.0 ∙ ap (λ (l : List (Row T)). trimmed 2000 (rows_with z numerals header [] (rest_walk z numerals header.object header.parties [] rest).steps (entries l))) empty ∙ ap (trimmed 2000) opens
+
+  pub leaves : (lines : List (List ℕ)) (header : Header T) (rest : Rest T) (none rows all : List (Row T)) → opened numerals (lines) ≡ Ok (header, lines_of rest.lines.now) → rest.line ≡ 1 → rest.left ≡ nothing → none ≡ [] →
+      (told : Option FaultyLine) → HasAdded z numerals (Some 2000) header [] (rest_walk z numerals header.object header.parties [] rest) none rows told → all ≡ rows → left_out (entries all) ≡ left_out (rows_of z numerals lines).rows
+  leaves lines header rest none rows all is line left empty told added same =
+      left_out_trimmed (entries all) ∙ ap left_out (rows_are lines header rest none rows all is line left empty told added same) ∙ sym (left_out_trimmed (rows_of z numerals lines).rows)
+
+  -- the steps that are drawn
+  pub tells : (lines : List (List ℕ)) (header : Header T) (rest : Rest T) (none rows all : List (Row T)) (steps : List (Step T)) → opened numerals (lines) ≡ Ok (header, lines_of rest.lines.now) → rest.line ≡ 1 → rest.left ≡ nothing → none ≡ [] →
+      (told : Option FaultyLine) → HasAdded z numerals (Some 2000) header [] (rest_walk z numerals header.object header.parties [] rest) none rows told → all ≡ rows → map shown_of steps ≡ map shown_at (kept (entries all)) →
+      map shown_of steps ≡ map shown_at (kept (rows_of z numerals lines).rows)
+  tells lines header rest none rows all steps is line left empty told added same shown =
+      let kept_same : kept (entries all) ≡ kept (rows_of z numerals lines).rows =
+      take_trimmed 2000 (entries all) ∙ ap kept (rows_are lines header rest none rows all is line left empty told added same) ∙ sym (take_trimmed 2000 (rows_of z numerals lines).rows) in
+      shown ∙ ap (map shown_at) kept_same

@@ -1,0 +1,7 @@
+use Rattle.std.proofs.Common.{◌≡◌, take}
+use Rattle.draw_markup.specs.Group.{titles_of}
+use Rattle.draw_text.specs.Picture.{step_titles}
+use Rattle.draw_text.proofs.picture.draw_steps.Given as goal
+
+abbrev pub invariant-loop-step : goal.invariant-loop-step
+invariant-loop-step g l = titles_of l.groups.items ≡ step_titles (take l.step-index l.story.steps.items)

@@ -1,0 +1,28 @@
+-- What a picture is, as bytes.
+use Rattle.std.specs.Prelude.{◌≡◌, ℕ, List, ◌++◌, map, codes, string_bytes}
+use Rattle.draw_markup.specs.declared.name.Tag.{Tag}
+use Rattle.draw_markup.specs.Tree.{IsElement}
+use Rattle.model_events.specs.Arithmetic.{Arithmetic}
+use Rattle.text_lines.specs.Lexer.{lines_of}
+use Rattle.text_lines.specs.Numerals.{Numerals}
+use Rattle.text_lines.specs.ValueTypes.{values_in}
+use Rattle.text_trace.specs.Trace.{rows_of}
+use Rattle.draw_story.specs.declared.story.Step.{Step}
+use Rattle.draw_story.specs.Story.{kept}
+use Rattle.draw_story.specs.Title.{title_words}
+
+-- an `svg` element with all that is in it, in which the groups have these titles, and then the end of the line
+abbrev pub IsPicture : List (List ℕ) → List ℕ → Type 0
+IsPicture titles bytes = (element : List ℕ) × (bytes ≡ element ++ codes "\n") × ∥ IsElement Tag.Svg titles element ∥₁
+
+-- the titles of a story's steps
+abbrev pub step_titles : {T : Type 0} → List (Step T) → List (List ℕ)
+step_titles steps = map (λ step. string_bytes step.title) steps
+
+-- a picture with a group for each row of the trace of these lines, in order, as far as they have room, whose title is that row in words
+abbrev pub IsTypedPicture : {T : Type 0} → Arithmetic T → Numerals T → List (List ℕ) → List ℕ → Type 0
+IsTypedPicture z numerals lines bytes = IsPicture (map title_words (kept (rows_of z numerals lines).rows)) bytes
+
+-- a picture of a text, by the type of its values
+unfoldable pub IsPictureOf : List ℕ → List ℕ → Type 0
+IsPictureOf text bytes = IsTypedPicture (values_in text).arithmetic (values_in text).numerals (lines_of text) bytes

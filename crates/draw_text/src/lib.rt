@@ -1,0 +1,13 @@
+//! Pictures of schedule texts.
+//!
+//! [`run::run`] draws the text that a reader brings, and writes its picture to a writer; [`picture::draw_text`] draws a text that is
+//! already there. The program of the crate beside this one is the first of them over standard input and output.
+//!
+//! A text is played and its steps are kept (`draw_story`); each step is put in words, and all get their places (`draw_layout`); what has
+//! a place is drawn (`draw_parts`, by the elements of `draw_shapes`); and `picture` makes one picture of it.
+#![tactic(auto)]
+
+pub mod picture;
+pub mod run;
+
+pub use draw_story::{story, title};

@@ -1,5 +1,0 @@
-use Rattle.running_rw_reader.specs.RwReaderShown.{HasStayed}
-use Rattle.lock_tests.proofs.tests.rwreader.lock_and_unlock_often.Given as goal
-
-abbrev pub invariant-loop : goal.invariant-loop
-invariant-loop g l = HasStayed l.fn.pass l.pass

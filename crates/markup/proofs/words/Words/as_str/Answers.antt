@@ -1,5 +1,0 @@
-use Rattle.markup.proofs.Trees.{words_same}
-use Rattle.markup.proofs.words.Words.as_str.Goals as goal
-
-pub returns : goal.returns
-returns c = words_same _ _ c.args.self.now.escaped c.as_str.ensures.value

@@ -1,8 +1,0 @@
-use Rattle.std.proofs.Common.{◌≡◌, ◌++◌}
-use Rattle.std.specs.List.{flat_map}
-use Rattle.std.specs.Prelude.{string_bytes}
-use Rattle.markup.specs.Tree.{shown}
-use Rattle.markup.proofs.words.push_words.Given as goal
-
-abbrev pub invariant-loop-char : goal.invariant-loop-char
-invariant-loop-char l = string_bytes l.bytes ≡ string_bytes l.initial.bytes ++ flat_map shown l.yielded

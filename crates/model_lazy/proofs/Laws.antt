@@ -1,0 +1,313 @@
+-- A lazy value keeps its law at every prefix of every run. The word and the closure are those of the once inside.
+use Rattle.std.proofs.Common.{◌≡◌, ℕ, ◌≤◌, ◌==◌, refl, sym, ◌∙◌, ap, subst, Bool, true, false, cond, List, [], ◌∷◌, Option, Some, inl, inr, arith}
+use Rattle.std.specs.Prelude.{IfSome, MatchBool, MatchOption, not}
+use Rattle.std.proofs.lemmas.Bool.{eqb-true}
+use Rattle.model_events.specs.declared.event.Word.{Word}
+use Rattle.model_events.specs.declared.event.Call.{Call}
+use Rattle.model_events.specs.declared.event.Act.{Act}
+use Rattle.model_events.specs.declared.event.Answer.{Answer}
+use Rattle.model_events.specs.declared.event.Event.{Event}
+use Rattle.model_events.specs.declared.event.Then.{Then}
+use Rattle.model_events.specs.declared.hold.HoldKind.{HoldKind}
+use Rattle.model_events.specs.Arithmetic.{Arithmetic}
+use Rattle.model_events.specs.Rows.{carried_out, value_told, outcome_of, place_after}
+use Rattle.model_events.specs.Past.{same_word, PendingCall, call_of, hold_of, word_in, word_after, event}
+use Rattle.model_events.specs.Moves.{Move, step_at, is_step}
+use Rattle.model_events.specs.Runs.{IsPast}
+use Rattle.model_events.specs.Sights.{AtLast, is_exchange, last_of}
+use Rattle.model_events.specs.Laws.{IsTold, Lacks, is_refusal}
+use Rattle.model_events.proofs.Holds.{some_same, no_holds, exclusive_unheld}
+use Rattle.model_events.proofs.Steps.{by_move, tells_memory}
+use Rattle.model_events.proofs.Parties.{IsKept, at_place}
+use Rattle.model_events.proofs.NextStep.{steps_as}
+use Rattle.model_events.proofs.Own.{IsCallAfter, call_was}
+use Rattle.model_once.specs.declared.OncePlace.{OncePlace}
+use Rattle.model_once.specs.Table.{found_after}
+use Rattle.model_once.specs.Closures.{is_begin, is_end, is_load, begins_in, ends_in, has_tried, RunsOnce}
+use Rattle.model_once.proofs.Laws.{AtOnce, seen_after, begin_after, closure_intent, has_begun}
+use Rattle.model_once.proofs.ClosureSteps.{IsLed, look_led, stay_led, begin_led, miss_led, quiet_led, looked, look_runs, stay_runs, begin_runs, end_runs, complete_runs}
+use Rattle.model_once.proofs.Closures.{is_miss, missed_since, IsClosureIntent, RunsOneClosure, at_most_one, complete_ended, closure_prefix, stays_complete, tells_state, own_began}
+use Rattle.model_lazy.specs.declared.LazyPlace.{LazyPlace}
+use Rattle.model_lazy.specs.Table.{lazy_table, lazy_begins, lazy_intent, reads_next, lazy_after}
+use Rattle.model_lazy.specs.Law.{LazyCause, is_read, shows_end, has_shown, LazyStep, KeepsLazy}
+
+-- What is kept of a call at its place.
+
+-- the call has seen the word at 2, or put it there
+abbrev pub has_seen_end : {T : Type 0} → List (Event T) → Bool
+has_seen_end [] = false
+has_seen_end (e ∷ own) = cond (shows_end e.act) true (has_seen_end own)
+
+-- of its own events: in the once inside what a once keeps, and at the read the end
+abbrev pub IsAt : {T : Type 0} → LazyPlace → PendingCall T → Option HoldKind → Type 0
+IsAt (LazyPlace.Once OncePlace.IsCompleted) c hold = ⊥
+IsAt (LazyPlace.Once place) c hold = AtOnce place c hold
+IsAt LazyPlace.Read c hold = has_seen_end c.own ≡ true
+
+-- of its latest steps, where those lead
+abbrev pub IsWhereLed : {T : Type 0} → LazyPlace → List (Event T) → Type 0
+IsWhereLed (LazyPlace.Once place) own = IsLed place own × (has_shown (last_of is_step own) ≡ false)
+IsWhereLed LazyPlace.Read own = has_shown (last_of is_step own) ≡ true
+
+pub record AtLazy {T : Type 0} (place : LazyPlace) (c : PendingCall T) (hold : Option HoldKind) : Type 0 where
+  pub call : c.call ≡ Call.Force
+  pub own : IsAt place c hold
+  pub led : IsWhereLed place c.own
+
+-- Where a call begins.
+
+begins_at : {T : Type 0} (call : Call T) (place : LazyPlace) (hold : Option HoldKind) → lazy_begins call ≡ Some place → AtLazy {T = T} place (record { call = call; own = [] }) hold
+begins_at {T} Call.Force place hold is = subst (λ p. AtLazy {T = T} p (record { call = Call.Force; own = [] }) hold) (some_same (LazyPlace.Once OncePlace.Look) place is) (record { call = refl; own = refl; led = ((refl, refl), refl) })
+begins_at other place hold is = absurd cc
+
+-- Where a step leads.
+
+-- a look at this word, by whether it saw 2
+look_leads :
+    {T : Type 0} (c : PendingCall T) (hold : Option HoldKind) (w number : ℕ) (outcome : Then T) (on : OncePlace) (next : LazyPlace) (complete : Bool) → c.call ≡ Call.Force →
+    IsAt (LazyPlace.Once on) (record { call = c.call; own = event number (Act.Load Word.State w) outcome ∷ c.own }) hold → (w == 2) ≡ complete → (complete ≡ false → IsLed on (event number (Act.Load Word.State w) outcome ∷ c.own)) →
+    place_after {T = T} (reads_next (seen_after on complete)) ≡ Some next → AtLazy next (record { call = c.call; own = event number (Act.Load Word.State w) outcome ∷ c.own }) hold
+look_leads {T} c hold w number outcome on next true force here sees led is =
+    subst (λ p. AtLazy {T = T} p (record { call = c.call; own = event number (Act.Load Word.State w) outcome ∷ c.own }) hold) (some_same LazyPlace.Read next is)
+    (record { call = force; own = rw sees refl; led = sees })
+look_leads {T} c hold w number outcome on next false force here sees led is =
+    subst (λ p. AtLazy {T = T} p (record { call = c.call; own = event number (Act.Load Word.State w) outcome ∷ c.own }) hold) (some_same (LazyPlace.Once on) next is)
+    (record { call = force; own = here; led = (led refl, sees) })
+
+-- the exchange, by whether it was done
+exchange_leads :
+    {T : Type 0} (c : PendingCall T) (hold : Option HoldKind) (w number : ℕ) (outcome : Then T) (next : LazyPlace) (done : Bool) → c.call ≡ Call.Force → place_after {T = T} (reads_next (begin_after done)) ≡ Some next →
+    AtLazy next (record { call = c.call; own = event number (Act.Exchange Word.State 0 1 w done) outcome ∷ c.own }) hold
+exchange_leads {T} c hold w number outcome next true force is =
+    subst (λ p. AtLazy {T = T} p (record { call = c.call; own = event number (Act.Exchange Word.State 0 1 w true) outcome ∷ c.own }) hold) (some_same (LazyPlace.Once OncePlace.Run) next is)
+    (record { call = force; own = refl; led = (begin_led c.own w number outcome, refl) })
+exchange_leads {T} c hold w number outcome next false force is =
+    subst (λ p. AtLazy {T = T} p (record { call = c.call; own = event number (Act.Exchange Word.State 0 1 w false) outcome ∷ c.own }) hold) (some_same (LazyPlace.Once OncePlace.Stay) next is)
+    (record { call = force; own = refl; led = (miss_led c.own w number outcome, refl) })
+
+steps_at :
+    {T : Type 0} (v : T) (place : LazyPlace) (c : PendingCall T) (hold left : Option HoldKind) (memory : Word → ℕ) (number : ℕ) (next : LazyPlace) → AtLazy place c hold →
+    place_after {T = T} (lazy_after v place (value_told {T = T} (carried_out (lazy_intent v Word.State place) memory))) ≡ Some next →
+    AtLazy next (record { call = c.call; own = event number (step_at (lazy_table v) place hold memory).act (step_at (lazy_table v) place hold memory).outcome ∷ c.own }) left
+steps_at v (LazyPlace.Once OncePlace.IsCompleted) c hold left memory number next at is = absurd at.own
+steps_at v (LazyPlace.Once OncePlace.Look) c hold left memory number next at is = look_leads c left (memory Word.State) number _ OncePlace.Begin next (memory Word.State == 2) at.call tt refl (λ sees. look_led c.own (memory Word.State) number (step_at (lazy_table v) (LazyPlace.Once OncePlace.Look) hold memory).outcome sees at.led.0.1) is
+steps_at v (LazyPlace.Once OncePlace.Begin) c hold left memory number next at is = exchange_leads c left (memory Word.State) number _ next (memory Word.State == 0) at.call is
+steps_at {T} v (LazyPlace.Once OncePlace.Run) c hold left memory number next at is =
+    subst (λ p. AtLazy {T = T} p (record { call = c.call; own = event number Act.Ended Then.GoesOn ∷ c.own }) left) (some_same (LazyPlace.Once OncePlace.Complete) next is)
+    (record { call = at.call; own = omega arith; led = (refl, refl) })
+steps_at {T} v (LazyPlace.Once OncePlace.Complete) c hold left memory number next at is =
+    subst (λ p. AtLazy {T = T} p (record { call = c.call; own = event number (Act.Store Word.State 2) Then.GoesOn ∷ c.own }) left) (some_same LazyPlace.Read next is)
+    (record { call = at.call; own = refl; led = refl })
+steps_at v (LazyPlace.Once OncePlace.Stay) c hold left memory number next at is = look_leads c left (memory Word.State) number _ OncePlace.Stay next (memory Word.State == 2) at.call at.own refl (λ sees. stay_led c.own (memory Word.State) number (step_at (lazy_table v) (LazyPlace.Once OncePlace.Stay) hold memory).outcome sees at.led.0.1) is
+steps_at v LazyPlace.Read c hold left memory number next at is = absurd cc
+
+-- no call of a lazy value stands, but an answer of a closure would change nothing
+
+stays_here :
+    {T : Type 0} (place : LazyPlace) (c : PendingCall T) (hold : Option HoldKind) (e : Event T) → is_step e.act ≡ false → is_miss e.act ≡ false → is_begin e.act ≡ false → is_end e.act ≡ false → shows_end e.act ≡ false →
+    IsAt place c hold → IsAt {T = T} place (record { call = c.call; own = e ∷ c.own }) hold
+stays_here (LazyPlace.Once OncePlace.IsCompleted) c hold e quiet misses begins ends shows at = at
+stays_here (LazyPlace.Once OncePlace.Look) c hold e quiet misses begins ends shows at = rw quiet at
+stays_here (LazyPlace.Once OncePlace.Begin) c hold e quiet misses begins ends shows at = tt
+stays_here (LazyPlace.Once OncePlace.Run) c hold e quiet misses begins ends shows at = rw (begins, ends) at
+stays_here (LazyPlace.Once OncePlace.Complete) c hold e quiet misses begins ends shows at = rw ends (omega (arith, at))
+stays_here (LazyPlace.Once OncePlace.Stay) c hold e quiet misses begins ends shows at = rw misses at
+stays_here LazyPlace.Read c hold e quiet misses begins ends shows at = rw shows at
+
+stays_led : {T : Type 0} (place : LazyPlace) (own : List (Event T)) (e : Event T) → is_step e.act ≡ false → is_exchange e.act ≡ false → IsWhereLed place own → IsWhereLed place (e ∷ own)
+stays_led (LazyPlace.Once place) own e quiet misses led = (quiet_led place own e quiet misses led.0, rw quiet led.1)
+stays_led LazyPlace.Read own e quiet misses led = rw quiet led
+
+pub lazy_kept : {T : Type 0} (v : T) → IsKept (lazy_table v) AtLazy
+lazy_kept v =
+    record {
+      begins = λ call place hold is allowed. begins_at call place hold is;
+      steps = λ place c hold memory number next at free is. steps_at v place c hold _ memory number next at is;
+      answers = λ place c hold action number at waits. record { call = at.call; own = stays_here place c hold (event number (Act.Answered action) Then.GoesOn) refl refl refl refl refl at.own; led = stays_led place c.own (event number (Act.Answered action) Then.GoesOn) refl refl at.led };
+      chooses = λ place c hold choice number at waits. record { call = at.call; own = stays_here place c hold (event number (Act.Chosen choice) Then.GoesOn) refl refl refl refl refl at.own; led = stays_led place c.own (event number (Act.Chosen choice) Then.GoesOn) refl refl at.led };
+    }
+
+-- A lazy value runs one closure.
+
+lazy_closure_intent : {T : Type 0} (v : T) (place : LazyPlace) (c : PendingCall T) (hold : Option HoldKind) → IsAt place c hold → IsClosureIntent {T = T} c.own (lazy_intent v Word.State place)
+lazy_closure_intent v (LazyPlace.Once OncePlace.IsCompleted) c hold at = absurd at
+lazy_closure_intent v (LazyPlace.Once OncePlace.Look) c hold at = closure_intent OncePlace.Look c hold at
+lazy_closure_intent v (LazyPlace.Once OncePlace.Begin) c hold at = closure_intent OncePlace.Begin c hold at
+lazy_closure_intent v (LazyPlace.Once OncePlace.Run) c hold at = closure_intent OncePlace.Run c hold at
+lazy_closure_intent v (LazyPlace.Once OncePlace.Complete) c hold at = closure_intent OncePlace.Complete c hold at
+lazy_closure_intent v (LazyPlace.Once OncePlace.Stay) c hold at = closure_intent OncePlace.Stay c hold at
+lazy_closure_intent v LazyPlace.Read c hold at = tt
+
+runs_one : {T : Type 0} (z : Arithmetic T) (v : T) (parties : ℕ) → RunsOneClosure z (lazy_table v) parties
+runs_one z v parties =
+    record {
+      opens = refl;
+      steps = λ past party c place run called stage. lazy_closure_intent v place c (hold_of (lazy_table v) party past) (at_place z (lazy_table v) parties AtLazy (lazy_kept v) past run party c place called stage).own;
+    }
+
+-- What a call has seen of the end stays so.
+
+shown_here : {T : Type 0} (act : Act T) (memory : Word → ℕ) → IsTold act memory → shows_end act ≡ true → word_after Word.State act (memory Word.State) ≡ 2
+shown_here (Act.Load Word.State seen) memory told shows = sym told ∙ eqb-true seen 2 shows
+shown_here (Act.Store Word.State put) memory told shows = eqb-true put 2 shows
+shown_here other memory told shows = absurd cc
+
+two_since :
+    {T : Type 0} (z : Arithmetic T) (v : T) (parties : ℕ) (past : List (Event T)) → IsPast z (lazy_table v) parties past → (party : ℕ) (c : PendingCall T) → call_of party past ≡ Some c → has_seen_end c.own ≡ true →
+    word_in (lazy_table v) past Word.State ≡ 2
+two_since z v parties [] run party c called seen = absurd cc
+two_since {T} z v parties (e ∷ past) run party c called seen = by_call (two_since z v parties past run.1) (call_was past e party c called)
+  where
+    still : word_in (lazy_table v) past Word.State ≡ 2 → word_in (lazy_table v) (e ∷ past) Word.State ≡ 2
+    still = stays_complete z (lazy_table v) parties (runs_one z v parties) past e run
+
+    by_test : (shows : Bool) → shows_end e.act ≡ shows → (own : List (Event T)) → (has_seen_end own ≡ true → word_in (lazy_table v) past Word.State ≡ 2) → cond shows true (has_seen_end own) ≡ true → word_in (lazy_table v) (e ∷ past) Word.State ≡ 2
+    by_test true shows own rest seen = shown_here e.act (word_in (lazy_table v) past) (tells_memory z (lazy_table v) parties (e ∷ past) run) shows
+    by_test false shows own rest seen = still (rest seen)
+
+    by_call : ((p : ℕ) (k : PendingCall T) → call_of p past ≡ Some k → has_seen_end k.own ≡ true → word_in (lazy_table v) past Word.State ≡ 2) → IsCallAfter past e party c → word_in (lazy_table v) (e ∷ past) Word.State ≡ 2
+    by_call rest (inl other) = still (rest party c other.1 seen)
+    by_call rest (inr (inl begun)) = let no : has_seen_end {T = T} [] ≡ true = subst (λ (own : List (Event T)). has_seen_end own ≡ true) begun.1 seen in absurd cc
+    by_call rest (inr (inr on)) = by_test (shows_end e.act) refl on.1.0.own (rest party on.1.0 on.1.1) (subst (λ (own : List (Event T)). has_seen_end own ≡ true) on.1.2 seen)
+
+-- What one more event tells.
+
+pub record EventLaw {T : Type 0} (v : T) (party : ℕ) (past : List (Event T)) (pending : Option (PendingCall T)) (m : Move T) : Type 0 where
+  pub cause : MatchBool (is_refusal m.outcome) (MatchOption pending ⊥ (λ c. LazyCause c.call party (event party m.act m.outcome ∷ past))) (Unit {0})
+  pub own : MatchBool (is_end m.act) (AtLast is_begin (λ before. begins_in before ≡ 0) party past) (Unit {0})
+  pub waits : MatchBool (is_load m.act) (MatchOption pending ⊥ (λ c. IfSome (last_of is_step c.own) (λ before. 1 ≤ begins_in past))) (Unit {0})
+  pub answers :
+      MatchBool (is_read m.act)
+      ((m.act ≡ Act.ReadCell v) × (m.outcome ≡ Then.Answers (Answer.Value v)) × (word_in (lazy_table v) past Word.State ≡ 2) × (ends_in past ≡ 1))
+      (m.outcome ≡ Then.GoesOn)
+
+-- a step in the once inside goes on
+goes_on_at : (T : Type 0) (place : OncePlace) (found : ℕ) → outcome_of {T = T} (reads_next (found_after place found)) ≡ Then.GoesOn
+goes_on_at T OncePlace.IsCompleted found = refl
+goes_on_at T OncePlace.Look found = by_test (found == 2)
+  where
+    by_test : (b : Bool) → outcome_of {T = T} (reads_next (seen_after OncePlace.Begin b)) ≡ Then.GoesOn
+    by_test true = refl
+    by_test false = refl
+goes_on_at T OncePlace.Begin found = by_test (found == 0)
+  where
+    by_test : (b : Bool) → outcome_of {T = T} (reads_next (begin_after b)) ≡ Then.GoesOn
+    by_test true = refl
+    by_test false = refl
+goes_on_at T OncePlace.Run found = refl
+goes_on_at T OncePlace.Complete found = refl
+goes_on_at T OncePlace.Stay found = by_test (found == 2)
+  where
+    by_test : (b : Bool) → outcome_of {T = T} (reads_next (seen_after OncePlace.Stay b)) ≡ Then.GoesOn
+    by_test true = refl
+    by_test false = refl
+
+-- a step that goes on, and reads nothing
+goes_on_law :
+    {T : Type 0} (v : T) (party : ℕ) (past : List (Event T)) (c : PendingCall T) (act : Act T) (outcome : Then T) → outcome ≡ Then.GoesOn → is_read act ≡ false →
+    MatchBool (is_end act) (AtLast is_begin (λ before. begins_in before ≡ 0) party past) (Unit {0}) →
+    MatchBool (is_load act) (IfSome (last_of is_step c.own) (λ before. 1 ≤ begins_in past)) (Unit {0}) → EventLaw v party past (Some c) (record { act = act; outcome = outcome })
+goes_on_law {T} v party past c act outcome goes reads ends waits =
+    subst (λ (o : Then T). EventLaw v party past (Some c) (record { act = act; outcome = o })) (sym goes)
+    (record { cause = tt; own = ends; waits = waits; answers = rw reads refl })
+
+step_law :
+    {T : Type 0} (z : Arithmetic T) (v : T) (parties party : ℕ) (past : List (Event T)) → IsPast z (lazy_table v) parties past → (c : PendingCall T) → call_of party past ≡ Some c →
+    (place : LazyPlace) (hold : Option HoldKind) → AtLazy place c hold → EventLaw v party past (Some c) (step_at (lazy_table v) place hold (word_in (lazy_table v) past))
+step_law z v parties party past run c called (LazyPlace.Once OncePlace.IsCompleted) hold at = absurd at.own
+step_law {T} z v parties party past run c called (LazyPlace.Once OncePlace.Look) hold at =
+    goes_on_law v party past c _ _ (goes_on_at T OncePlace.Look _) refl tt (rw at.own tt)
+step_law {T} z v parties party past run c called (LazyPlace.Once OncePlace.Begin) hold at =
+    goes_on_law v party past c _ _ (goes_on_at T OncePlace.Begin _) refl tt tt
+step_law {T} z v parties party past run c called (LazyPlace.Once OncePlace.Run) hold at =
+    let prefix = closure_prefix z (lazy_table v) parties (runs_one z v parties) past run in
+    goes_on_law v party past c _ _ (goes_on_at T OncePlace.Run 0) refl (own_began z (lazy_table v) parties party past run c called at.own (at_most_one _ _ _ prefix.state).0) tt
+step_law {T} z v parties party past run c called (LazyPlace.Once OncePlace.Complete) hold at =
+    goes_on_law v party past c _ _ (goes_on_at T OncePlace.Complete 0) refl tt tt
+step_law {T} z v parties party past run c called (LazyPlace.Once OncePlace.Stay) hold at =
+    goes_on_law v party past c _ _ (goes_on_at T OncePlace.Stay _) refl tt (has_begun (last_of is_step c.own) (missed_since z (lazy_table v) parties (runs_one z v parties) past run party c called at.own))
+step_law z v parties party past run c called LazyPlace.Read hold at =
+    let two = two_since z v parties past run party c called at.own in
+    let prefix = closure_prefix z (lazy_table v) parties (runs_one z v parties) past run in
+    record {
+      cause = tt;
+      own = tt;
+      waits = tt;
+      answers = (refl, refl, two, complete_ended _ _ _ prefix.state two);
+    }
+
+event_law :
+    {T : Type 0} (z : Arithmetic T) (v : T) (parties : ℕ) (past : List (Event T)) (e : Event T) → IsPast z (lazy_table v) parties (e ∷ past) → EventLaw v e.party past (call_of e.party past) (record { act = e.act; outcome = e.then })
+event_law {T} z v parties past e run =
+    by_move (lazy_table v) (call_of e.party past) (hold_of (lazy_table v) e.party past) (word_in (lazy_table v) past) (λ (k : Option (PendingCall T)) (m : Move T). EventLaw v e.party past k m)
+    run.0.0 (record { act = e.act; outcome = e.then })
+    (λ call _. record { cause = tt; own = tt; waits = tt; answers = refl })
+    (λ action _. record { cause = tt; own = tt; waits = tt; answers = refl })
+    (λ choice _. record { cause = tt; own = tt; waits = tt; answers = refl })
+    (λ c place _ called stage.
+    step_law z v parties e.party past run.1 c called place (hold_of (lazy_table v) e.party past) (at_place z (lazy_table v) parties AtLazy (lazy_kept v) past run.1 e.party c place called stage))
+    run.0.1.moved
+
+-- each step is its call's next
+
+-- a look goes on, whatever it saw
+looked_on : {T : Type 0} (w : ℕ) → looked {T = T} Then.GoesOn w ≡ Then.GoesOn
+looked_on {T} w = by_test (w == 2)
+  where
+    by_test : (b : Bool) → ◌≡◌ {A = Then T} (cond b Then.GoesOn Then.GoesOn) Then.GoesOn
+    by_test true = refl
+    by_test false = refl
+
+look_on : {T : Type 0} (own : List (Event T)) (w : ℕ) → IsLed OncePlace.Look own → RunsOnce Then.GoesOn (has_tried own) (last_of is_step own) (Act.Load Word.State w) Then.GoesOn
+look_on {T} own w led = subst (λ (o : Then T). RunsOnce Then.GoesOn (has_tried own) (last_of is_step own) (Act.Load Word.State w) o) (looked_on w) (look_runs Then.GoesOn own w led)
+
+stay_on : {T : Type 0} (own : List (Event T)) (w : ℕ) → IsLed OncePlace.Stay own → RunsOnce Then.GoesOn (has_tried own) (last_of is_step own) (Act.Load Word.State w) Then.GoesOn
+stay_on {T} own w led = subst (λ (o : Then T). RunsOnce Then.GoesOn (has_tried own) (last_of is_step own) (Act.Load Word.State w) o) (looked_on w) (stay_runs Then.GoesOn own w led)
+
+lazy_step :
+    {T : Type 0} (v : T) (place : LazyPlace) (c : PendingCall T) (hold : Option HoldKind) (memory : Word → ℕ) → AtLazy place c hold →
+    LazyStep v c.call c.own (step_at (lazy_table v) place hold memory).act (step_at (lazy_table v) place hold memory).outcome
+lazy_step v (LazyPlace.Once OncePlace.IsCompleted) c hold memory at = absurd at.own
+lazy_step {T} v (LazyPlace.Once OncePlace.Look) c hold memory at = rw (at.call, at.led.1, goes_on_at T OncePlace.Look (memory Word.State)) (look_on c.own (memory Word.State) at.led.0)
+lazy_step {T} v (LazyPlace.Once OncePlace.Begin) c hold memory at = rw (at.call, at.led.1, goes_on_at T OncePlace.Begin (memory Word.State)) (begin_runs Then.GoesOn c.own (memory Word.State) (memory Word.State == 0) at.led.0)
+lazy_step v (LazyPlace.Once OncePlace.Run) c hold memory at = rw (at.call, at.led.1) (end_runs Then.GoesOn c.own at.led.0)
+lazy_step v (LazyPlace.Once OncePlace.Complete) c hold memory at = rw (at.call, at.led.1) (complete_runs Then.GoesOn c.own at.led.0)
+lazy_step {T} v (LazyPlace.Once OncePlace.Stay) c hold memory at = rw (at.call, at.led.1, goes_on_at T OncePlace.Stay (memory Word.State)) (stay_on c.own (memory Word.State) at.led.0)
+lazy_step v LazyPlace.Read c hold memory at = rw (at.call, at.led) (refl, refl)
+
+pub keeps_lazy : {T : Type 0} (z : Arithmetic T) (v : T) (parties : ℕ) (past : List (Event T)) → IsPast z (lazy_table v) parties past → KeepsLazy v past
+keeps_lazy z v parties [] run =
+    let prefix = closure_prefix z (lazy_table v) parties (runs_one z v parties) [] run in
+    record { told = tt; exclusive = exclusive_unheld [] refl; cause = tt; law = record { unheld = refl; one = omega arith; ends = omega arith; own = tt; steps = tt; waits = tt; answers = tt; stays = tt; state = tells_state (lazy_table v) [] prefix.state } }
+keeps_lazy z v parties (e ∷ past) run =
+    let event = event_law z v parties past e run in
+    let prefix = closure_prefix z (lazy_table v) parties (runs_one z v parties) (e ∷ past) run in
+    let most = at_most_one _ _ _ prefix.state in
+    let unheld = no_holds (lazy_table v) (λ call from to. refl) (e ∷ past) in
+    record {
+      told = tells_memory z (lazy_table v) parties (e ∷ past) run;
+      exclusive = exclusive_unheld _ unheld;
+      cause = event.cause;
+      law =
+          record {
+            unheld = unheld;
+            one = most.0;
+            ends = most.2;
+            own = event.own;
+            steps = steps_as z (lazy_table v) parties AtLazy (LazyStep v) (lazy_kept v) (lazy_step v) (e ∷ past) run;
+            waits = event.waits;
+            answers = event.answers;
+            stays = stays_complete z (lazy_table v) parties (runs_one z v parties) past e run;
+            state = tells_state (lazy_table v) (e ∷ past) prefix.state;
+          };
+    }
+
+-- a lazy value has no other word
+pub lazy_lacks : (T : Type 0) (v : T) (word : Word) → same_word Word.State word ≡ false → Lacks (lazy_table v) word
+lazy_lacks T v word other (LazyPlace.Once OncePlace.IsCompleted) hold = ap not other
+lazy_lacks T v word other (LazyPlace.Once OncePlace.Look) hold = ap not other
+lazy_lacks T v word other (LazyPlace.Once OncePlace.Begin) hold = ap not other
+lazy_lacks T v word other (LazyPlace.Once OncePlace.Run) hold = refl
+lazy_lacks T v word other (LazyPlace.Once OncePlace.Complete) hold = ap not other
+lazy_lacks T v word other (LazyPlace.Once OncePlace.Stay) hold = ap not other
+lazy_lacks T v word other LazyPlace.Read hold = refl

@@ -1,0 +1,185 @@
+-- What each step of a writer-preferring lock does to its word, its holds and its mark.
+use Rattle.model_rw_writer.specs.Names.{Word, Call, Act, HoldKind, Intent, carried_out, Hold, PendingCall, hold_among, word_after, without, reads_in, writes_in, IsExclusive}
+use Rattle.model_rw_writer.proofs.Names.{eqb-false, nat_tests, ◌≡◌, ◌≢◌, ℕ, ◌+◌, ◌*◌, ◌-◌, ◌%◌, ◌^◌, ◌<◌, ◌≤◌, ◌==◌, refl, sym, ◌∙◌, ap, subst, Bool, true, false, cond, is_some, List, [], ◌∷◌, Option, Some, None, ◌⊎◌, inl, inr, arith, eqb-true, eqb_other, IsOneEach, without_one_each, without_counts, counted_of, both_kinds, unwritten_exclusive, written_exclusive, holds_after, without_only}
+use Rattle.model_rw_writer.specs.Table.{is_mark, rw_writer_grant, rw_writer_table}
+use Rattle.model_rw_writer.specs.Marks.{is_writing, setter_after}
+use Rattle.model_rw_writer.specs.Law.{CountsHolds}
+
+-- What an exchange of the word may be: a reader enters, the writer enters, a writer sets the mark, or takes it away.
+
+pub record IsReaderIn {T : Type 0} (call : Call T) (from to : ℕ) : Type 0 where
+  pub reads : is_writing call ≡ false
+  pub grants : rw_writer_grant call from to ≡ Some HoldKind.Read
+  pub even : from % 2 ≡ 0
+  pub fits : from < 2 ^ 64 - 4
+  pub more : to ≡ from + 2
+
+pub record IsWriterIn {T : Type 0} (call : Call T) (from to : ℕ) : Type 0 where
+  pub writes : is_writing call ≡ true
+  pub grants : rw_writer_grant call from to ≡ Some HoldKind.Write
+  pub unheld : from < 2
+  pub full : to ≡ 2 ^ 64 - 1
+
+pub record IsMarking {T : Type 0} (call : Call T) (from to : ℕ) : Type 0 where
+  pub writes : is_writing call ≡ true
+  pub grants : rw_writer_grant call from to ≡ None
+  pub even : from % 2 ≡ 0
+  pub fits : from ≢ 2 ^ 64 - 2
+  pub more : to ≡ from + 1
+
+pub record IsUnmarking {T : Type 0} (call : Call T) (from to : ℕ) : Type 0 where
+  pub writes : is_writing call ≡ true
+  pub grants : rw_writer_grant call from to ≡ None
+  pub odd : from % 2 ≡ 1
+  pub below : from ≢ 2 ^ 64 - 1
+  pub less : from ≡ to + 1
+
+abbrev pub IsExchange : {T : Type 0} → Call T → ℕ → ℕ → Type 0
+IsExchange call from to = IsReaderIn call from to ⊎ (IsWriterIn call from to ⊎ (IsMarking call from to ⊎ IsUnmarking call from to))
+
+-- what a step may do to the word, by its call and its party's hold
+abbrev pub IsWriterIntent : {T : Type 0} → Call T → Option HoldKind → Intent T → Type 0
+IsWriterIntent call hold (Intent.Exchange Word.State from to) = (hold ≡ None) × IsExchange call from to
+IsWriterIntent call hold (Intent.Subtract Word.State less) = (less ≡ 2) × (hold ≡ Some HoldKind.Read)
+IsWriterIntent call hold (Intent.Store Word.State put) = (put ≡ 0) × (hold ≡ Some HoldKind.Write)
+IsWriterIntent call hold (Intent.Swap Word.State put) = ⊥
+IsWriterIntent call hold (Intent.Add Word.State more) = ⊥
+IsWriterIntent call hold other = Unit {0}
+
+-- the word counts the holds, of which each party has one at most, and the mark
+pub record IsKeptWord (w : ℕ) (holds : List Hold) (marked : Bool) : Type 0 where
+  pub counts : CountsHolds w holds marked
+  pub each : IsOneEach holds
+
+-- after a step: they are counted again, and a read hold more comes only where the mark was not set
+pub record Keeps (holds : List Hold) (marked : Bool) (w : ℕ) (later : List Hold) (marked_later : Bool) : Type 0 where
+  pub kept : IsKeptWord w later marked_later
+  pub keeps_out : reads_in holds < reads_in later → marked ≡ false
+
+pub nobody : IsKeptWord 0 [] false
+nobody = record { counts = inl (record { counts = refl; unwritten = refl; fits = omega arith }); each = tt }
+
+pub unchanged : (w : ℕ) (holds : List Hold) (marked : Bool) → IsKeptWord w holds marked → Keeps holds marked w holds marked
+unchanged w holds marked law = record { kept = law; keeps_out = λ more. absurd (omega (arith, more)) }
+
+reader_in : (p w to : ℕ) (holds : List Hold) (marked : Bool) → IsKeptWord w holds marked → hold_among p holds ≡ None → w % 2 ≡ 0 → w < 2 ^ 64 - 4 → to ≡ w + 2 → Keeps holds marked to ((p, HoldKind.Read) ∷ holds) marked
+reader_in p w to holds marked h1 h2 h3 h4 h5 = grind (arith, nat_tests, eqb-true, eqb-false)
+
+pub held_by_none : (holds : List Hold) → reads_in holds ≡ 0 → writes_in holds ≡ 0 → holds ≡ []
+held_by_none [] reads writes = refl
+held_by_none (hold ∷ holds) reads writes = absurd (omega (arith, both_kinds (hold ∷ holds), reads, writes))
+
+writer_in : (p w to : ℕ) (holds : List Hold) (marked : Bool) → IsKeptWord w holds marked → w < 2 → to ≡ 2 ^ 64 - 1 → Keeps holds marked to ((p, HoldKind.Write) ∷ holds) false
+writer_in p w to holds marked law unheld full = by_counts law.counts
+  where
+    only : (none : holds ≡ []) → Keeps holds marked to ((p, HoldKind.Write) ∷ holds) false
+    only none =
+        let alone : ◌≡◌ {A = List Hold} ((p, HoldKind.Write) ∷ holds) ((p, HoldKind.Write) ∷ []) = ap (λ (hs : List Hold). (p, HoldKind.Write) ∷ hs) none in
+        record {
+          kept = record { counts = inr (record { is_full = full; writer = p; alone = alone; unmarked = refl }); each = subst IsOneEach (sym alone) (refl, tt) };
+          keeps_out = λ gain. absurd (omega (arith, gain));
+        }
+
+    by_counts : CountsHolds w holds marked → Keeps holds marked to ((p, HoldKind.Write) ∷ holds) false
+    by_counts (inl read) = only (held_by_none holds (omega (arith, read.counts, unheld)) read.unwritten)
+    by_counts (inr written) = absurd (omega (arith, written.is_full, unheld))
+
+mark_set : (w to : ℕ) (holds : List Hold) (marked : Bool) → IsKeptWord w holds marked → w % 2 ≡ 0 → to ≡ w + 1 → Keeps holds marked to holds true
+mark_set w to holds marked h1 h2 h3 = grind (arith, nat_tests, eqb-true, eqb-false)
+
+mark_gone : (w to : ℕ) (holds : List Hold) (marked : Bool) → IsKeptWord w holds marked → w % 2 ≡ 1 → w ≢ 2 ^ 64 - 1 → w ≡ to + 1 → Keeps holds marked to holds false
+mark_gone w to holds marked h1 h2 h3 h4 = grind (arith, nat_tests, eqb-true, eqb-false)
+
+reader_out : (p w : ℕ) (holds : List Hold) (marked : Bool) → IsKeptWord w holds marked → hold_among p holds ≡ Some HoldKind.Read → Keeps holds marked ((w + (2 ^ 64 - 2)) % 2 ^ 64) (without p holds) marked
+reader_out p w holds marked law had = by_counts marked law.counts
+  where
+    reads : reads_in holds ≡ 1 + reads_in (without p holds)
+    reads = without_counts HoldKind.Read HoldKind.Read p holds law.each had
+
+    writes : writes_in holds ≡ 0 + writes_in (without p holds)
+    writes = without_counts HoldKind.Write HoldKind.Read p holds law.each had
+
+    fewer : (m : Bool) (mark : ℕ) → mark ≤ 1 → w ≡ 2 * reads_in holds + mark → reads_in holds < 2 ^ 63 - 1 → (w + (2 ^ 64 - 2)) % 2 ^ 64 ≡ 2 * reads_in (without p holds) + mark
+    fewer m mark small counts fits = omega (arith, small, counts, fits, reads)
+
+    by_counts : (m : Bool) → CountsHolds w holds m → Keeps holds m ((w + (2 ^ 64 - 2)) % 2 ^ 64) (without p holds) m
+    by_counts true (inl read) =
+        record {
+          kept = record {
+            counts = inl (record { counts = fewer true 1 (omega arith) read.counts read.fits; unwritten = omega (arith, read.unwritten, writes); fits = omega (arith, read.fits, reads) });
+            each = without_one_each p holds law.each;
+          };
+          keeps_out = λ gain. absurd (omega (arith, gain, reads));
+        }
+    by_counts false (inl read) =
+        record {
+          kept = record {
+            counts = inl (record { counts = fewer false 0 (omega arith) read.counts read.fits; unwritten = omega (arith, read.unwritten, writes); fits = omega (arith, read.fits, reads) });
+            each = without_one_each p holds law.each;
+          };
+          keeps_out = λ gain. absurd (omega (arith, gain, reads));
+        }
+    by_counts m (inr written) =
+        let none : reads_in holds ≡ 0 = ap reads_in written.alone in
+        absurd (omega (arith, none, reads))
+
+writer_out : (p w put : ℕ) (holds : List Hold) (marked : Bool) → IsKeptWord w holds marked → hold_among p holds ≡ Some HoldKind.Write → put ≡ 0 → Keeps holds marked put (without p holds) marked
+writer_out p w put holds marked law had free = by_counts law.counts
+  where
+    by_counts : CountsHolds w holds marked → Keeps holds marked put (without p holds) marked
+    by_counts (inl read) = absurd (omega (arith, read.unwritten, counted_of HoldKind.Write p holds had))
+    by_counts (inr written) =
+        let mine : is_some (hold_among p ((written.writer, HoldKind.Write) ∷ [])) ≡ true = subst (λ (hs : List Hold). is_some (hold_among p hs) ≡ true) written.alone (ap is_some had) in
+        let none : without p holds ≡ [] = ap (without p) written.alone ∙ without_only p written.writer mine in
+        let empty : IsKeptWord put [] marked = subst (λ v. IsKeptWord v [] marked) (sym free) (subst (λ m. IsKeptWord 0 [] m) (sym written.unmarked) nobody) in
+        record {
+          kept = subst (λ (hs : List Hold). IsKeptWord put hs marked) (sym none) empty;
+          keeps_out = λ gain. written.unmarked;
+        }
+
+-- A done exchange, by what it is.
+
+pub no_mark : (from to : ℕ) → to ≢ from + 1 → is_mark from to ≡ false
+no_mark from to other = eqb_other to (from + 1) (λ is. other (sym is))
+
+pub is_marking : (from to : ℕ) → to ≡ from + 1 → is_mark from to ≡ true
+is_marking from to h1 = grind (arith, nat_tests, eqb-true, eqb-false)
+
+exchanged :
+    {T : Type 0} (p : ℕ) (c : PendingCall T) (w from to : ℕ) (holds : List Hold) (setter : Option ℕ) → IsKeptWord w holds (is_some setter) → hold_among p holds ≡ None → IsExchange c.call from to → (b : Bool) → (w == from) ≡ b →
+    Keeps holds (is_some setter) (cond b to w) (holds_after {T = T} rw_writer_table p (Some c) (Act.Exchange Word.State from to w b) holds)
+    (is_some (setter_after {T = T} p (Act.Exchange Word.State from to w b) (Some c) setter))
+exchanged p c w from to holds setter law free is false e = unchanged w holds (is_some setter) law
+exchanged p c w from to holds setter law free (inl is) true e =
+    let found : w ≡ from = eqb-true w from e in
+    rw (is.grants, is.reads) (reader_in p w to holds (is_some setter) law free (omega (arith, found, is.even)) (omega (arith, found, is.fits)) (omega (arith, found, is.more)))
+exchanged p c w from to holds setter law free (inr (inl is)) true e =
+    let found : w ≡ from = eqb-true w from e in
+    let other : is_mark from to ≡ false = no_mark from to (λ same. absurd (omega (arith, same, is.unheld, is.full))) in
+    rw (is.grants, is.writes, other) (writer_in p w to holds (is_some setter) law (omega (arith, found, is.unheld)) is.full)
+exchanged p c w from to holds setter law free (inr (inr (inl is))) true e =
+    let found : w ≡ from = eqb-true w from e in
+    rw (is.grants, is.writes, is_marking from to is.more) (mark_set w to holds (is_some setter) law (omega (arith, found, is.even)) (omega (arith, found, is.more)))
+exchanged p c w from to holds setter law free (inr (inr (inr is))) true e =
+    let found : w ≡ from = eqb-true w from e in
+    let other : is_mark from to ≡ false = no_mark from to (λ same. absurd (omega (arith, same, is.less))) in
+    let below : w ≢ 2 ^ 64 - 1 = λ full. is.below (sym found ∙ full) in
+    rw (is.grants, is.writes, other) (mark_gone w to holds (is_some setter) law (omega (arith, found, is.odd)) below (found ∙ is.less))
+
+pub step_keeps :
+    {T : Type 0} (p : ℕ) (c : PendingCall T) (memory : Word → ℕ) (holds : List Hold) (setter : Option ℕ) (intent : Intent T) →
+    IsKeptWord (memory Word.State) holds (is_some setter) → IsWriterIntent c.call (hold_among p holds) intent →
+    Keeps holds (is_some setter) (word_after Word.State (carried_out intent memory) (memory Word.State)) (holds_after rw_writer_table p (Some c) (carried_out intent memory) holds)
+    (is_some (setter_after p (carried_out intent memory) (Some c) setter))
+step_keeps p c memory holds setter (Intent.Exchange Word.State from to) law is = exchanged p c (memory Word.State) from to holds setter law is.0 is.1 (memory Word.State == from) refl
+step_keeps p c memory holds setter (Intent.Subtract Word.State less) law is = rw is.0 (reader_out p (memory Word.State) holds (is_some setter) law is.1)
+step_keeps p c memory holds setter (Intent.Store Word.State put) law is = writer_out p (memory Word.State) put holds (is_some setter) law is.1 is.0
+step_keeps p c memory holds setter (Intent.Swap Word.State put) law is = absurd is
+step_keeps p c memory holds setter (Intent.Add Word.State more) law is = absurd is
+step_keeps p c memory holds setter other law is = unchanged (memory Word.State) holds (is_some setter) law
+
+-- What the word says of the holds and the mark.
+
+pub writer_lock_exclusive : (w : ℕ) (holds : List Hold) (marked : Bool) → CountsHolds w holds marked → IsExclusive holds
+writer_lock_exclusive w holds marked (inl read) = unwritten_exclusive holds read.unwritten
+writer_lock_exclusive w holds marked (inr written) = subst IsExclusive (sym written.alone) (written_exclusive written.writer)

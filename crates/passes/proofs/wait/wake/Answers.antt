@@ -1,5 +1,0 @@
-use Rattle.std.proofs.Common.{refl}
-use Rattle.passes.proofs.wait.wake.Goals as goal
-
-pub returns : goal.returns
-returns g c = record { word = _; says = record { shown = _; shows = refl; says = record { met = c.wake.ensures } } }

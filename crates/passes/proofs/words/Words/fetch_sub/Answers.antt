@@ -1,5 +1,0 @@
-use Rattle.passes.proofs.Steps.{steps}
-use Rattle.passes.proofs.words.Words.fetch_sub.Goals as goal
-
-pub fetch_sub-requires : goal.fetch_sub-requires
-fetch_sub-requires g c = (c.requires.own, c.requires.inside, steps _ _ g.T.Tally.core g.T.Tally.adds_up _ _ _ _ _ _ _ c.args.pass.now.alive c.requires.update)

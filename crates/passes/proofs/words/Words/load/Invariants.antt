@@ -1,5 +1,0 @@
-use Rattle.passes.specs.Passes.{Told}
-use Rattle.passes.proofs.words.Words.load.Given as goal
-
-abbrev pub ghosts-load : goal.ghosts-load
-ghosts-load g a = record { then = λ step me found after. Told me (g.D.Deed.tells a.self.now.key step.first step.second me.0) found after }

@@ -1,5 +1,0 @@
-use Rattle.playing.proofs.Names.{refl}
-use Rattle.playing.proofs.calling.answer.Goals as goal
-
-pub returns : goal.returns
-returns g c = record { answered = record { word = _; seen = _; named = refl; says = record { met = c.wait.ensures } } }

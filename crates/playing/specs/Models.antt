@@ -1,9 +1,0 @@
--- A model, and what is known of every run of it.
-use Rattle.playing.specs.Names.{List, Event, Arithmetic, Table}
-
--- The steps of an object over values of V: P is the type of the places of its calls.
-pub record Model (V P : Type 0) : Type 1 where
-  pub arithmetic : Arithmetic V
-  pub table : Table V P
-  -- what holds at every front of every run
-  pub law : List (Event V) → Type 0

@@ -1,0 +1,244 @@
+-- A step that the table has may be made.
+use Rattle.running_model.specs.Names.{Word, Call, Event, HoldKind, Intent, Act, carried_out, value_told, hold_after, word_in, IsPast, View, Sights, IsTally, Updates, view_of}
+use Rattle.running_model.proofs.Names.{◌≡◌, ℕ, zero, suc, refl, sym, ap, subst, ◌∙◌, Bool, true, false, cond, List, [], ◌∷◌, Option, Some, set, get_or, eqb_same}
+use mathlib.Core.Option as maybe
+use prog.Atomic.{either}
+use Rattle.running_model.specs.Models.{Model}
+use Rattle.running_model.specs.declared.played.Played.{Played}
+use Rattle.running_model.specs.Slots.{Slot, Free, Mine, Torn, both, all, slot_at, only, all_of, Parties, no_parties, both_parties}
+use Rattle.running_model.specs.SlotLaws.{no_parties_add, slot_of_all}
+use Rattle.running_model.specs.Words.{AllHold, AreApart, IsStepOn, IsOnNoWord, effect}
+use Rattle.running_model.specs.Plays.{fresh_call, Coming, IsPlayed, act_at, Leads, Led, IsStepAt, MayStep, StoodAlone, Went, HasStepped, WentBy, StoodBeside, WentBeside, WentAlone, events_of}
+use Rattle.running_model.specs.Passes.{played, none_played, both_played, counted_in, PlaysAndCounts, GoesOnCounting, StaysCounting, GoesOnByActs, StaysOnNoWord, Stepped, SteppedByAct, Looked}
+use Rattle.running_model.proofs.Words.{hold_at, carried_here}
+use Rattle.running_model.proofs.Same.{same_coming}
+use Rattle.running_model.proofs.Ready.{AllMatch, ready, still, came, step_event, steps}
+use Rattle.running_model.proofs.Own.{own_call}
+
+free_first : {V : Type 0} (s r : Slot V) → both s r ≡ Free → s ≡ Free
+free_first Free r is = refl
+free_first (Mine own) Free is = is
+free_first (Mine own) (Mine more) is = absurd cc
+free_first (Mine own) Torn is = absurd cc
+free_first Torn r is = is
+
+-- to set a word to what it holds changes nothing
+set_as_it_was : (found : List ℕ) (i : ℕ) → set found i (get_or found i 0) ≡ found
+set_as_it_was [] i = refl
+set_as_it_was (x ∷ xs) zero = refl
+set_as_it_was (x ∷ xs) (suc i) = ap (λ (ys : List ℕ). x ∷ ys) (set_as_it_was xs i)
+
+module _ {V P : Type 0} (m : Model V P) (names : List Word) where
+  -- The step, by what it does: what it leaves in the word, and what it tells of it. What was known of the run before it, and what acts on no
+  -- word leave as it is, is known right before its event.
+  pub record Makes (coming : Coming V) (found : List ℕ) (p rest : Parties V) (i y told : ℕ) (intent : Intent V) (call : Call V) (place : P) (hold : Option HoldKind) (Says : List (Event V) → Type 0) : Type 0 where
+    pub after : Parties V
+    pub past : List (Event V)
+    pub latest : Event V
+    pub says : Says past
+    pub words : AllHold names found (word_in m.table past)
+    pub step : IsStepAt m call place hold told past latest
+    pub act_is : latest.act ≡ carried_out intent (λ _. told)
+    pub parties : ℕ
+    pub run : IsPast m.arithmetic m.table parties (latest ∷ past)
+    pub law : m.law (latest ∷ past)
+    pub hold_now : AllHold names (set found i y) (word_in m.table (latest ∷ past))
+    pub each : AllMatch (all_of (both_parties after rest)) (latest ∷ past)
+    pub went : Went m coming p told after
+    pub by : WentBy m coming p told after
+    pub beside : WentBeside m Says coming p told
+    pub alone : rest ≡ no_parties → WentAlone m Says coming p told
+
+  -- and so the words stand at the run that is longer by the step's event
+  abbrev pub made_run : (coming : Coming V) (found : List ℕ) (p rest : Parties V) (i y told : ℕ) (intent : Intent V) (call : Call V) (place : P) (hold : Option HoldKind) (Says : List (Event V) → Type 0) →
+      (a : Makes coming found p rest i y told intent call place hold Says) → IsPlayed m names (set found i y) (both_parties a.after rest)
+  made_run coming found p rest i y told intent call place hold Says a = record { parties = a.parties; past = a.latest ∷ a.past; run = a.run; law = a.law; hold = a.hold_now; each = a.each }
+
+  pub makes :
+      ((n : ℕ) (past : List (Event V)) → IsPast m.arithmetic m.table n past → m.law past) → AreApart names → (coming : Coming V) (found : List ℕ) (p rest : Parties V) (i y told : ℕ) (intent : Word → Intent V) →
+      (may : MayStep m names coming i intent p) → ((w : Word) → effect (intent w) (get_or found i 0) ≡ y) → ((w : Word) → carried_out (intent w) (λ _. get_or found i 0) ≡ carried_out (intent w) (λ _. told)) →
+      (r : IsPlayed m names found (both_parties p rest)) (Says : List (Event V) → Type 0) → ((past : List (Event V)) (e : Event V) → IsOnNoWord e.act → Says past → Says (e ∷ past)) → Says r.past →
+      Makes coming found p rest i y told (intent may.name) may.call may.place may.hold Says
+  makes lawful apart coming found p rest i y told intent may leaves tells r Says quiet says =
+      let x : ℕ = get_or found i 0 in
+      let on : IsStepOn may.name (m.table.intent may.place may.hold) = subst (IsStepOn may.name) (sym may.intends) may.on in
+      let left : effect (m.table.intent may.place may.hold) x ≡ y = ap (λ (k : Intent V). effect k x) may.intends ∙ leaves may.name in
+      let before = ready m names coming found p rest may.call may.place may.hold may.done r may.comes in
+      let was = came m names coming found p rest may.call may.place may.hold may.done r may.comes in
+      let made = steps m names lawful apart found may.done rest may.call may.place may.hold i y may.name before may.named on left in
+      let same : act_at m may.place may.hold x ≡ act_at m may.place may.hold told =
+      ap (λ (k : Intent V). carried_out k (λ _. x)) may.intends ∙ tells may.name ∙ sym (ap (λ (k : Intent V). carried_out k (λ _. told)) may.intends) in
+      let led : Led m may.call may.place may.hold told may.done made.after =
+      subst (λ (a : Act V). Leads m may.call (m.table.after may.place (value_told a)) (hold_after m.table a (Some (fresh_call may.call)) may.hold) may.done made.after) same made.led in
+      let act_in : (past : List (Event V)) → AllHold names found (word_in m.table past) → act_at m may.place may.hold told ≡ carried_out (m.table.intent may.place may.hold) (word_in m.table past) =
+      λ past words. sym same ∙ ap (λ (n : ℕ). carried_out (m.table.intent may.place may.hold) (λ _. n)) (hold_at names found i may.name (word_in m.table past) words may.named)
+      ∙ sym (carried_here may.name (m.table.intent may.place may.hold) (word_in m.table past) on) in
+      record {
+        after = made.after;
+        past = before.past;
+        latest = step_event m names before.party may.place may.hold x;
+        says = still m names Says quiet coming found p rest may.call may.place may.hold may.done r may.comes says;
+        words = before.words;
+        step = record {
+          parties = made.parties;
+          run = made.run;
+          law = lawful before.parties before.past before.run;
+          pending = before.pending;
+          under_way = before.under_way;
+          called = before.called;
+          stage = before.stage;
+          has = before.has;
+          act = same;
+          found_is = act_in before.past before.words;
+        };
+        act_is = ap (λ (k : Intent V). carried_out k (λ _. x)) may.intends ∙ tells may.name;
+        parties = made.parties;
+        run = made.run;
+        law = made.law;
+        hold_now = made.hold;
+        each = made.each;
+        went = λ call place hold done comes.
+            let here = same_coming m coming may.call call may.place place may.hold hold may.done done p may.comes comes in
+            subst (λ c. Led m c place hold told done made.after) here.same_call
+            (subst (λ s. Led m may.call s hold told done made.after) here.same_place
+            (subst (λ h. Led m may.call may.place h told done made.after) here.same_hold
+            (subst (λ d. Led m may.call may.place may.hold told d made.after) here.same_done led)));
+        by = λ call place hold done comes.
+            let here = same_coming m coming may.call call may.place place may.hold hold may.done done p may.comes comes in
+            subst (λ c. HasStepped m c place hold told done p made.after) here.same_call
+            (subst (λ s. HasStepped m may.call s hold told done p made.after) here.same_place
+            (subst (λ h. HasStepped m may.call may.place h told done p made.after) here.same_hold
+            (subst (λ d. HasStepped m may.call may.place may.hold told d p made.after) here.same_done (record {
+              party = before.party;
+              own = was.own;
+              before = events_of before.party before.past;
+              latest = step_event m names before.party may.place may.hold x;
+              pending = before.pending;
+              was = was.was;
+              since = was.since;
+              under_way = own_call before.party before.past ∙ before.under_way;
+              called = before.called;
+              its_own = refl;
+              act = same;
+              free = free_first (slot_at before.party may.done) (slot_at before.party (all_of rest)) (sym (slot_of_all before.party may.done (all_of rest)) ∙ before.apart.free);
+              now = made.now ∙ ap (λ (o : List (Event V)). all (only before.party (Mine o)) may.done) (rw (eqb_same before.party) refl);
+            }))));
+        beside = λ call place hold done comes.
+            let here = same_coming m coming may.call call may.place place may.hold hold may.done done p may.comes comes in
+            subst (λ s. StoodBeside m Says s hold told p) here.same_place
+            (subst (λ h. StoodBeside m Says may.place h told p) here.same_hold
+            (record { parties = r.parties; past = r.past; run = r.run; law = r.law; says = says; others = rest; each = r.each; found_is = act_in r.past r.hold }));
+        alone = λ none call place hold done comes.
+            let here = same_coming m coming may.call call may.place place may.hold hold may.done done p may.comes comes in
+            let nobody : both_parties p rest ≡ p = ap (both_parties p) none ∙ no_parties_add p in
+            subst (λ s. StoodAlone m Says s hold told p) here.same_place
+            (subst (λ h. StoodAlone m Says may.place h told p) here.same_hold
+            (record {
+              parties = r.parties;
+              past = r.past;
+              run = r.run;
+              law = r.law;
+              says = says;
+              each = subst (λ (u : Parties V). AllMatch (all_of u) r.past) nobody r.each;
+              found_is = act_in r.past r.hold;
+            }));
+      }
+
+  -- beside it the pass counts as it may
+  module _ {M Q C : Type 0} (none : C) (add : C → C → C) (unit : (c : C) → add c none ≡ c) (agree : List ℕ → List (maybe.Option (Unit {0})) → C → Type 0) (follow : List (Event V) → C → Type 0) where
+    pub updates :
+        ((n : ℕ) (past : List (Event V)) → IsPast m.arithmetic m.table n past → m.law past) → AreApart names → StaysOnNoWord follow → (coming : Coming V) (v : View (Played M Q V C)) (i : ℕ) (intent : Word → Intent V) (f shows : ℕ → ℕ)
+        (tells : View C → ℕ → View C → Type 0) → MayStep m names coming i intent v.tally.parties → ((w : Word) (n : ℕ) → effect (intent w) n ≡ f n) →
+        ((w : Word) (n : ℕ) → carried_out (intent w) (λ _. n) ≡ carried_out (intent w) (λ _. shows n)) →
+        Updates none add agree (counted_in v) i f (λ found. tells (counted_in v) (shows found)) → GoesOnCounting m names add agree follow coming i intent v.tally.parties v.tally.counts (tells (counted_in v)) →
+        Updates (none_played none) (both_played add) (PlaysAndCounts m names agree follow) v i f (λ found. Stepped m follow coming tells v (shows found))
+    updates lawful apart quiet coming v i intent f shows tells may leaves so counts goes = record {
+      may = λ found homes rest r alone fits.
+          let x : ℕ = get_or found i 0 in
+          let Says : List (Event V) → Type 0 = λ past. follow past (add v.tally.counts rest.counts) in
+          let a = makes lawful apart coming found v.tally.parties rest.parties i (f x) (shows x) intent may (λ w. leaves w x) (λ w. so w x) r.played Says (λ past e silent is. quiet past e (add v.tally.counts rest.counts) silent is) r.follows in
+          let b = counts.may found homes rest.counts r.agrees (λ whole. ap (λ (u : Played M Q V C). u.counts) (alone whole)) fits in (
+            view_of b.0.part b.0.sights (played a.after b.0.tally),
+            b.1,
+            record {
+              played = made_run _ _ _ _ _ _ _ _ _ _ _ _ a;
+              agrees = b.2;
+              follows = goes may.call may.place may.hold may.done may.comes a.past a.latest (shows x) a.step may.name may.named a.act_is rest.counts b.0 b.3 (record { words = found; homes = homes; hold = a.words; agreed = r.agrees; made = set found i (f x); agrees = b.2 }) a.says;
+            },
+            record {
+              went = a.went;
+              alone = λ whole.
+                  let none_is : add v.tally.counts rest.counts ≡ v.tally.counts = ap (λ (u : Played M Q V C). add v.tally.counts u.counts) (alone whole) ∙ unit v.tally.counts in
+                  subst (λ (c : C). WentAlone m (λ past. follow past c) coming v.tally.parties (shows x)) none_is (a.alone (ap (λ (u : Played M Q V C). u.parties) (alone whole)));
+              told = b.3;
+            },
+          );
+    }
+
+    -- or what its act does, where the words are asked for nothing
+    pub updates_by_act :
+        ((n : ℕ) (past : List (Event V)) → IsPast m.arithmetic m.table n past → m.law past) → AreApart names → StaysOnNoWord follow → ((found : List ℕ) (homes : List (maybe.Option (Unit {0}))) (c : C) → agree found homes c) →
+        (sees : Act V → Sights → Sights) (after : Act V → Call V → C → C) → GoesOnByActs m add follow after → (coming : Coming V) (v : View (Played M Q V C)) (i : ℕ) (intent : Word → Intent V) (f shows : ℕ → ℕ) →
+        MayStep m names coming i intent v.tally.parties → ((w : Word) (n : ℕ) → effect (intent w) n ≡ f n) → ((w : Word) (n : ℕ) → carried_out (intent w) (λ _. n) ≡ carried_out (intent w) (λ _. shows n)) →
+        Updates (none_played none) (both_played add) (PlaysAndCounts m names agree follow) v i f (λ found. SteppedByAct m add follow sees after coming v (shows found))
+    updates_by_act lawful apart quiet free sees after goes coming v i intent f shows may leaves so = record {
+      may = λ found homes rest r alone fits.
+          let x : ℕ = get_or found i 0 in
+          let Says : List (Event V) → Type 0 = λ past. follow past (add v.tally.counts rest.counts) in
+          let a = makes lawful apart coming found v.tally.parties rest.parties i (f x) (shows x) intent may (λ w. leaves w x) (λ w. so w x) r.played Says (λ past e silent is. quiet past e (add v.tally.counts rest.counts) silent is) r.follows in
+          let act : Act V = act_at m may.place may.hold (shows x) in (
+            view_of v.part (sees act v.sights) (played a.after (after act may.call v.tally.counts)),
+            refl,
+            record {
+              played = made_run _ _ _ _ _ _ _ _ _ _ _ _ a;
+              agrees = free _ _ _;
+              follows = subst (λ (act : Act V). follow (a.latest ∷ a.past) (add (after act may.call v.tally.counts) rest.counts)) a.step.act
+                  (goes may.call may.place may.hold a.past a.latest (shows x) a.step v.tally.counts rest.counts a.says);
+            },
+            record {
+              went = a.went;
+              by = a.by;
+              beside = record { rest = rest.counts; beside = a.beside };
+              alone = λ whole.
+                  let none_is : add v.tally.counts rest.counts ≡ v.tally.counts = ap (λ (u : Played M Q V C). add v.tally.counts u.counts) (alone whole) ∙ unit v.tally.counts in
+                  subst (λ (c : C). WentAlone m (λ past. follow past c) coming v.tally.parties (shows x)) none_is (a.alone (ap (λ (u : Played M Q V C). u.parties) (alone whole)));
+              told = λ call place hold done comes.
+                  let here = same_coming m coming may.call call may.place place may.hold hold may.done done v.tally.parties may.comes comes in
+                  λ j. view_of v.part (sees (act_at m (here.same_place j) (here.same_hold j) (shows x)) v.sights) (after (act_at m (here.same_place j) (here.same_hold j) (shows x)) (here.same_call j) v.tally.counts);
+            },
+          );
+    }
+
+    -- a load that is no step lets the parties be
+    pub looks :
+        (v : View (Played M Q V C)) (i : ℕ) (tells : View C → ℕ → View C → Type 0) → Updates none add agree (counted_in v) i (λ n. n) (tells (counted_in v)) → StaysCounting m names add agree follow v.tally.counts (tells (counted_in v)) →
+        Updates (none_played none) (both_played add) (PlaysAndCounts m names agree follow) v i (λ n. n) (Looked tells v)
+    looks v i tells counts stays = record {
+      may = λ found homes rest r alone fits.
+          let b = counts.may found homes rest.counts r.agrees (λ whole. ap (λ (u : Played M Q V C). u.counts) (alone whole)) fits in (
+            view_of b.0.part b.0.sights (played v.tally.parties b.0.tally),
+            b.1,
+            record {
+              played = record {
+                parties = r.played.parties;
+                past = r.played.past;
+                run = r.played.run;
+                law = r.played.law;
+                hold = subst (λ (ws : List ℕ). AllHold names ws (word_in m.table r.played.past)) (sym (set_as_it_was found i)) r.played.hold;
+                each = r.played.each;
+              };
+              agrees = b.2;
+              follows = stays r.played.past (get_or found i 0) rest.counts b.0 b.3 (record { words = found; homes = homes; hold = r.played.hold; agreed = r.agrees; made = set found i (get_or found i 0); agrees = b.2 }) r.follows;
+            },
+            record { parties = refl; told = b.3 },
+          );
+    }
+
+pub adds_nothing : {C : Type 0} (none : C) (add : C → C → C) (core : C → C) → IsTally none add core → (c : C) → add c none ≡ c
+adds_nothing none add core laws c = laws.swap c none ∙ laws.unit c
+
+-- what an exchange leaves, by either choice
+
+pub either_is : (b : Bool) (x y : ℕ) → cond b x y ≡ either b x y
+either_is true x y = refl
+either_is false x y = refl

@@ -1,0 +1,53 @@
+-- Counts that are a sum over the acts of a run.
+use Rattle.running_model.specs.Names.{◌≡◌, ℕ, ◌+◌, if◌then◌else◌, List, [], ◌∷◌, Option, None, Act, Event, HoldKind, PendingCall, call_of, hold_taken, Table, IsTally}
+use Rattle.std.proofs.Common.{ap, sym, ◌∙◌, refl, arith}
+use Rattle.running_model.specs.Holding.{is_kind}
+use Rattle.running_model.specs.Words.{IsOnNoWord, on_no_word}
+use Rattle.running_model.specs.Passes.{StaysOnNoWord}
+
+-- `count` tells what an act counts, by the call under way whose act it is.
+module _ {V C : Type 0} (first : C) (add : C → C → C) (count : Act V → Option (PendingCall V) → C) where
+  -- what the acts of a run count together
+  abbrev pub sum_in : List (Event V) → C
+  sum_in [] = first
+  sum_in (e ∷ past) = add (count e.act (call_of e.party past)) (sum_in past)
+
+  abbrev pub IsSumOf : List (Event V) → C → Type 0
+  IsSumOf past counts = counts ≡ sum_in past
+
+  -- acts on no word count nothing
+  pub same_sum : (none : C) (core : C → C) → IsTally none add core → ((act : Act V) (pending : Option (PendingCall V)) → IsOnNoWord act → count act pending ≡ none) → StaysOnNoWord IsSumOf
+  same_sum none core laws nothing past e counts quiet is = is ∙ sym (ap (λ (c : C). add c (sum_in past)) (nothing e.act (call_of e.party past) quiet) ∙ laws.unit (sum_in past))
+
+  -- what a party counts by its act, all count
+  pub next_sum : (none : C) (core : C → C) → IsTally none add core → (past : List (Event V)) (e : Event V) (before after rest : C) → after ≡ add (count e.act (call_of e.party past)) before → IsSumOf past (add before rest) → IsSumOf (e ∷ past) (add after rest)
+  next_sum none core laws past e before after rest step is =
+      let more : C = count e.act (call_of e.party past) in ap (λ (c : C). add c rest) step ∙ laws.group more before rest ∙ ap (add more) is
+
+-- Grants: a call is granted with the act that takes a hold.
+
+pub numbers_add_up : IsTally 0 (λ n m. n + m) (λ _. 0)
+numbers_add_up = record { unit = λ n. omega arith; swap = λ n m. omega arith; group = λ n m k. omega arith; copy = λ n. omega arith }
+
+-- what takes no hold grants none
+pub no_kind : (kind : HoldKind) → ◌≡◌ {A = ℕ} (if is_kind kind None then 1 else 0) 0
+no_kind HoldKind.Read = refl
+no_kind HoldKind.Write = refl
+
+module _ {V P : Type 0} (t : Table V P) (kind : HoldKind) where
+  -- whether an act of a call takes a hold of this kind, as a number
+  abbrev pub grants_by : Act V → Option (PendingCall V) → ℕ
+  grants_by act pending = if is_kind kind (hold_taken t act pending) then 1 else 0
+
+  -- how often calls were granted such a hold in a run
+  abbrev pub grants_in : List (Event V) → ℕ
+  grants_in past = sum_in 0 (λ n m. n + m) grants_by past
+
+  no_grants_by : (act : Act V) (pending : Option (PendingCall V)) → IsOnNoWord act → grants_by act pending ≡ 0
+  no_grants_by act pending = let none = no_kind kind in on_no_word (λ (a : Act V). grants_by a pending ≡ 0) (λ call. none) (λ action. none) (λ choice. none) (λ wake. none) none (λ value. none) act
+
+  pub same_grants : (past : List (Event V)) (e : Event V) (n : ℕ) → IsOnNoWord e.act → n ≡ grants_in past → n ≡ grants_in (e ∷ past)
+  same_grants past e n quiet is = same_sum 0 (λ n m. n + m) grants_by 0 (λ _. 0) numbers_add_up no_grants_by past e n quiet is
+
+  pub next_grants : (past : List (Event V)) (e : Event V) (before after rest : ℕ) → after ≡ grants_by e.act (call_of e.party past) + before → before + rest ≡ grants_in past → after + rest ≡ grants_in (e ∷ past)
+  next_grants = next_sum 0 (λ n m. n + m) grants_by 0 (λ _. 0) numbers_add_up

@@ -1,0 +1,239 @@
+//! How a call under way calls its closures, and how it is over.
+ghost use Rattle.std.specs.Prelude.{◌≡◌};
+ghost use Rattle.std.specs.Fn.{FnReturnsAt, FnOnceTakesAtMut, FnOnceReturnsAtMut};
+ghost use Rattle.running_passes.specs.Answers.{MayAnswer};
+ghost use Rattle.running_model.specs.Passes.{parties_of};
+ghost use Rattle.running_model.specs.Stages.{IsPassOf, id_of, key_of};
+ghost use Rattle.running_model.specs.Tries.{IsToEnd, IsToWake, StandsToWait, HasTold};
+ghost use Rattle.running_model.specs.Turns.{IsToWakeAgain, IsOver, IsOverAside, IsOverAfterTwo, action_in, pass_in};
+
+use crate::counts::Counts;
+use crate::played::Played;
+use crate::script::Script;
+use crate::stage::Stage;
+use crate::turn::{AfterAside, AfterTwo, Answered, Continued, Goes, Turn, hear};
+use crate::wait::{Sealed, Shown};
+use model_events::WaitAction;
+use running_passes::Pass;
+use std::alloc::Allocator;
+use std::marker::PhantomData;
+
+impl<'p, M, P, V, C> Turn<'p, Pass<Played<M, P, V, C>>, Goes> {
+    /// Calls a wait closure that answers whether the call may give up, at which the call stands. It is handed the word that the model
+    /// names for that place, and told what the model tells it there.
+    #[inline(always)]
+    pub fn ask<K, A: Allocator, X: Shown, W: Fn(&X, &u64) -> WaitAction>(
+        self,
+        at: &Stage<K, M, P, V, C, A>,
+        word: &Sealed<X>,
+        told: u64,
+        wait: &W,
+    ) -> Answered<'p, Pass<Played<M, P, V, C>>>
+    where
+        M: Script<K, P, V>,
+        C: Counts<K, V>,
+        requires own { IsPassOf at.now self.pass.now }
+        requires word { X.object word.now.shown ≡ id_of at.now }
+        requires stands { StandsToWait (M.model (key_of at.now)) M.names M.handed (X.index word.now.shown) told (parties_of self.pass.now) }
+        requires may { W.IsAlwaysCallable wait.now }
+        ensures same_borrow { (pass_in result).ghost_name ≡ self.entry.pass.ghost_name }
+        ensures still { (pass_in result).now ≡ self.entry.pass.now }
+        ensures answered { MayAnswer W.Fn wait.now (λ n. n ≡ told) (action_in result) }
+    {
+        let _at = at;
+        hear(self, &word.shown, told, wait)
+    }
+
+    /// Calls a wait closure that answers nothing, at which the call stands. It is handed the word that the model names for that place, and
+    /// told what the model tells it there.
+    #[inline(always)]
+    pub fn tell<K, A: Allocator, X: Shown, W: Fn(&X, &u64)>(
+        self,
+        at: &Stage<K, M, P, V, C, A>,
+        word: &Sealed<X>,
+        told: u64,
+        wait: &W,
+    ) -> Turn<'p, Pass<Played<M, P, V, C>>, Continued>
+    where
+        M: Script<K, P, V>,
+        C: Counts<K, V>,
+        requires own { IsPassOf at.now self.pass.now }
+        requires word { X.object word.now.shown ≡ id_of at.now }
+        requires stands { StandsToWait (M.model (key_of at.now)) M.names M.handed (X.index word.now.shown) told (parties_of self.pass.now) }
+        requires may { W.IsAlwaysCallable wait.now }
+        ensures same_borrow { result.pass.ghost_name ≡ self.entry.pass.ghost_name }
+        ensures still { result.pass.now ≡ self.entry.pass.now }
+        ensures told { HasTold W.Fn wait.now told }
+    {
+        let _at = at;
+        let Turn { pass, by: _ } = self;
+        wait(&word.shown, &told);
+        Turn {
+            pass,
+            by: PhantomData,
+        }
+    }
+
+    /// Calls the wake closure that the call is to call next, of the word that the model names for that place.
+    #[inline(always)]
+    pub fn wake<K, A: Allocator, X: Shown, W: Fn(&X)>(
+        self,
+        at: &Stage<K, M, P, V, C, A>,
+        word: &Sealed<X>,
+        wake: &W,
+    ) -> Turn<'p, Pass<Played<M, P, V, C>>, AfterAside>
+    where
+        M: Script<K, P, V>,
+        C: Counts<K, V>,
+        requires own { IsPassOf at.now self.pass.now }
+        requires word { X.object word.now.shown ≡ id_of at.now }
+        requires wakes { IsToWake (M.model (key_of at.now)) M.names M.handed (X.index word.now.shown) (parties_of self.pass.now) }
+        requires may { W.IsAlwaysCallable wake.now }
+        ensures same_borrow { result.pass.ghost_name ≡ self.entry.pass.ghost_name }
+        ensures still { result.pass.now ≡ self.entry.pass.now }
+        ensures woke { FnReturnsAt W.Fn wake.now word.now.shown tt }
+    {
+        let _at = at;
+        let Turn { pass, by: _ } = self;
+        call(wake, &word.shown);
+        Turn {
+            pass,
+            by: PhantomData,
+        }
+    }
+
+    /// Calls the closure that the call is to end next, which is lent `on`, and answers what it gave.
+    #[inline(always)]
+    pub fn run<K, A: Allocator, X, Y, F: FnOnce(&mut X) -> Y>(
+        self,
+        at: &Stage<K, M, P, V, C, A>,
+        on: &mut X,
+        f: F,
+    ) -> (Y, Turn<'p, Pass<Played<M, P, V, C>>, AfterAside>)
+    where
+        M: Script<K, P, V>,
+        C: Counts<K, V>,
+        requires own { IsPassOf at.now self.pass.now }
+        requires ends { IsToEnd (M.model (key_of at.now)) (parties_of self.pass.now) }
+        requires may { FnOnceTakesAtMut F.FnOnce f on.old }
+        ensures same_borrow { result.1.pass.ghost_name ≡ self.entry.pass.ghost_name }
+        ensures still { result.1.pass.now ≡ self.entry.pass.now }
+        ensures gave { FnOnceReturnsAtMut F.FnOnce f on.old result.0 on.new }
+    {
+        let _at = at;
+        let Turn { pass, by: _ } = self;
+        let gave = f(on);
+        let next = Turn {
+            pass,
+            by: PhantomData,
+        };
+        (gave, next)
+    }
+
+    /// The call has been answered. Gives the pass back.
+    #[inline(always)]
+    pub fn end<K, A: Allocator>(
+        self,
+        at: &Stage<K, M, P, V, C, A>,
+    ) -> &'p mut Pass<Played<M, P, V, C>>
+    where
+        M: Script<K, P, V>,
+        C: Counts<K, V>,
+        requires own { IsPassOf at.now self.pass.now }
+        requires over { IsOver (M.model (key_of at.now)) (parties_of self.pass.now) }
+        ensures same_borrow { result.ghost_name ≡ self.entry.pass.ghost_name }
+        ensures still { result.now ≡ self.entry.pass.now }
+    {
+        let _at = at;
+        let Turn { pass, by: _ } = self;
+        pass
+    }
+}
+
+impl<'p, M, P, V, C> Turn<'p, Pass<Played<M, P, V, C>>, AfterAside> {
+    /// Calls the wake closure that the call is to call next, once it has called another, of the word that the model names for that place.
+    #[inline(always)]
+    pub fn wake_again<K, A: Allocator, X: Shown, W: Fn(&X)>(
+        self,
+        at: &Stage<K, M, P, V, C, A>,
+        word: &Sealed<X>,
+        second: &W,
+    ) -> Turn<'p, Pass<Played<M, P, V, C>>, AfterTwo>
+    where
+        M: Script<K, P, V>,
+        C: Counts<K, V>,
+        requires own { IsPassOf at.now self.pass.now }
+        requires word { X.object word.now.shown ≡ id_of at.now }
+        requires wakes { IsToWakeAgain (M.model (key_of at.now)) M.names M.handed (X.index word.now.shown) (parties_of self.pass.now) }
+        requires may { W.IsAlwaysCallable second.now }
+        ensures same_borrow { result.pass.ghost_name ≡ self.entry.pass.ghost_name }
+        ensures still { result.pass.now ≡ self.entry.pass.now }
+        ensures woke { FnReturnsAt W.Fn second.now word.now.shown tt }
+    {
+        let _at = at;
+        let Turn { pass, by: _ } = self;
+        call(second, &word.shown);
+        Turn {
+            pass,
+            by: PhantomData,
+        }
+    }
+
+    /// The call has been answered, once it has woken, or its closure has ended. Gives the pass back.
+    #[inline(always)]
+    pub fn end_aside<K, A: Allocator>(
+        self,
+        at: &Stage<K, M, P, V, C, A>,
+    ) -> &'p mut Pass<Played<M, P, V, C>>
+    where
+        M: Script<K, P, V>,
+        C: Counts<K, V>,
+        requires own { IsPassOf at.now self.pass.now }
+        requires over { IsOverAside (M.model (key_of at.now)) (parties_of self.pass.now) }
+        ensures same_borrow { result.ghost_name ≡ self.entry.pass.ghost_name }
+        ensures still { result.now ≡ self.entry.pass.now }
+    {
+        let _at = at;
+        let Turn { pass, by: _ } = self;
+        pass
+    }
+}
+
+impl<'p, M, P, V, C> Turn<'p, Pass<Played<M, P, V, C>>, AfterTwo> {
+    /// The call has been answered, once it has woken twice. Gives the pass back.
+    #[inline(always)]
+    pub fn end_after_two<K, A: Allocator>(
+        self,
+        at: &Stage<K, M, P, V, C, A>,
+    ) -> &'p mut Pass<Played<M, P, V, C>>
+    where
+        M: Script<K, P, V>,
+        C: Counts<K, V>,
+        requires own { IsPassOf at.now self.pass.now }
+        requires over { IsOverAfterTwo (M.model (key_of at.now)) (parties_of self.pass.now) }
+        ensures same_borrow { result.ghost_name ≡ self.entry.pass.ghost_name }
+        ensures still { result.now ≡ self.entry.pass.now }
+    {
+        let _at = at;
+        let Turn { pass, by: _ } = self;
+        pass
+    }
+}
+
+/// Calls a wake closure, of this word.
+#[inline(always)]
+pub(crate) fn call<X, W: Fn(&X)>(wake: &W, word: &X)
+    requires may { W.IsAlwaysCallable wake.now }
+    ensures woke { FnReturnsAt W.Fn wake.now word.now tt }
+{
+    wake(word);
+}
+
+/// Calls a wait closure, and says what it has answered.
+#[inline(always)]
+pub(crate) fn answer<X, W: Fn(&X, &u64) -> WaitAction>(word: &X, told: u64, wait: &W) -> WaitAction
+    requires may { W.IsAlwaysCallable wait.now }
+    ensures answered { MayAnswer W.Fn wait.now (λ n. n ≡ told) result }
+{
+    wait(word, &told)
+}

@@ -1,0 +1,245 @@
+//! A call under way of a pass that is out with its seat, as where a value lies in a slot beside the word.
+ghost use Rattle.std.specs.Prelude.{◌≡◌, ◌<◌, ◌==◌};
+ghost use Rattle.std.specs.Fn.{FnReturnsAt};
+ghost use mathlib.Core.Option.{none};
+ghost use prog.Atomic.{either};
+ghost use Rattle.atomic_table.specs.Table.{Allows, step};
+ghost use Rattle.model_events.specs.declared.row.Intent.TheVariants as intents;
+ghost use Rattle.running_passes.specs.Answers.{MayAnswer};
+ghost use Rattle.running_model.specs.Plays.{MayStep, Went};
+ghost use Rattle.running_model.specs.Tries.{IsToWake, StandsToWait};
+ghost use Rattle.running_model.specs.Turns.{IsOver, IsOverAside, action_heard, seat_in};
+
+use crate::calling::{answer, call};
+use crate::played::Played;
+use crate::script::Script;
+use crate::turn::{Aborted, AfterAside, Begins, Continued, Continues, Goes, Way};
+use crate::wait::{Sealed, Shown};
+use atomic_table::{Play, Seat, Shared, TableRule};
+use model_events::WaitAction;
+use running_passes::View;
+use std::marker::PhantomData;
+
+/// A call under way, which comes to its next step by `W`, as a `Turn` is. It has the seat of its pass, and the call's last turn gives it
+/// back. It cannot be let go.
+pub struct SeatTurn<S, T, W> {
+    pub(crate) seat: Seat<S, View<T>>,
+    pub(crate) by: PhantomData<W>,
+}
+
+/// What a wait closure has answered such a call, as the way by which it comes to its next step.
+pub enum SeatAnswered<S, T> {
+    Continue(SeatTurn<S, T, Continued>),
+    Abort(SeatTurn<S, T, Aborted>),
+}
+
+/// Begins a call, by a party that is new.
+#[inline(always)]
+pub fn begin_new<L, S, T>(seat: Seat<S, View<T>>) -> SeatTurn<S, T, Begins<L>>
+    ensures still { result.seat ≡ seat }
+{
+    SeatTurn {
+        seat,
+        by: PhantomData,
+    }
+}
+
+/// Begins a call, by the party that has its hold.
+#[inline(always)]
+pub fn begin_held<L, S, T>(seat: Seat<S, View<T>>) -> SeatTurn<S, T, Continues<L>>
+    ensures still { result.seat ≡ seat }
+{
+    SeatTurn {
+        seat,
+        by: PhantomData,
+    }
+}
+
+/// A step that the table of the model has, of a call that comes to it by `W`, and what else it tells of the seat.
+struct Step<M, P, V, W, D> {
+    of: PhantomData<M>,
+    at: PhantomData<P>,
+    over: PhantomData<V>,
+    by: PhantomData<W>,
+    tells: PhantomData<D>,
+}
+
+impl<S, P, V, M: Script<(), P, V>, C, W: Way<V>, D: Play<S, View<Played<M, P, V, C>>>> Play<
+    S,
+    View<Played<M, P, V, C>>,
+> for Step<M, P, V, W, D> {
+    ghost then = { λ at before found after. Went (M.model tt) W.coming before.0.tally.parties found after.0.tally.parties × D.then at before found after };
+}
+
+impl<S, M, P, V, C, W> SeatTurn<S, Played<M, P, V, C>, W> {
+    /// The swap that the table has: it puts `to`, and answers what it found.
+    #[inline(always)]
+    pub fn swap<R, D>(
+        self,
+        at: &Shared<S, View<Played<M, P, V, C>>, (), R>,
+        word: usize,
+        to: u64,
+    ) -> (u64, SeatTurn<S, Played<M, P, V, C>, Goes>)
+    where
+        M: Script<(), P, V>,
+        W: Way<V>,
+        R: TableRule<S, View<Played<M, P, V, C>>, ()>,
+        D: Play<S, View<Played<M, P, V, C>>>,
+        requires own { self.seat.table_id ≡ at.now.table_id }
+        requires inside { word < at.now.table_id.words }
+        requires may { MayStep (M.model tt) M.names W.coming word (λ w. intents.Swap w to) self.seat.me.0.tally.parties }
+        requires update { Allows (R.holds at.now.key) at.now.table_id.slots self.seat.id self.seat.me word (λ _. to) (λ found after. Went (M.model tt) W.coming self.seat.me.0.tally.parties found after.0.tally.parties × D.then (step at.now.table_id.slots word to 0 none) self.seat.me found after) }
+        ensures same { (result.1.seat.table_id ≡ self.seat.table_id) × (result.1.seat.id ≡ self.seat.id) }
+        ensures went { Went (M.model tt) W.coming self.seat.me.0.tally.parties result.0 result.1.seat.me.0.tally.parties }
+        ensures told { D.then (step at.now.table_id.slots word to 0 none) self.seat.me result.0 result.1.seat.me }
+    {
+        let SeatTurn { mut seat, by: _ } = self;
+        let found = at.swap::<Step<M, P, V, W, D>>(&mut seat, word, to);
+        let next = SeatTurn {
+            seat,
+            by: PhantomData,
+        };
+        (found, next)
+    }
+
+    /// The compare-exchange that the table has: it puts `to` where it finds `from`, and answers what it found.
+    #[inline(always)]
+    pub fn exchange<R, D>(
+        self,
+        at: &Shared<S, View<Played<M, P, V, C>>, (), R>,
+        word: usize,
+        from: u64,
+        to: u64,
+    ) -> (u64, SeatTurn<S, Played<M, P, V, C>, Goes>)
+    where
+        M: Script<(), P, V>,
+        W: Way<V>,
+        R: TableRule<S, View<Played<M, P, V, C>>, ()>,
+        D: Play<S, View<Played<M, P, V, C>>>,
+        requires own { self.seat.table_id ≡ at.now.table_id }
+        requires inside { word < at.now.table_id.words }
+        requires may { MayStep (M.model tt) M.names W.coming word (λ w. intents.Exchange w from to) self.seat.me.0.tally.parties }
+        requires update { Allows (R.holds at.now.key) at.now.table_id.slots self.seat.id self.seat.me word (λ n. either (n == from) to n) (λ found after. Went (M.model tt) W.coming self.seat.me.0.tally.parties found after.0.tally.parties × D.then (step at.now.table_id.slots word from to none) self.seat.me found after) }
+        ensures same { (result.1.seat.table_id ≡ self.seat.table_id) × (result.1.seat.id ≡ self.seat.id) }
+        ensures went { Went (M.model tt) W.coming self.seat.me.0.tally.parties result.0 result.1.seat.me.0.tally.parties }
+        ensures told { D.then (step at.now.table_id.slots word from to none) self.seat.me result.0 result.1.seat.me }
+    {
+        let SeatTurn { mut seat, by: _ } = self;
+        let found = at.compare_exchange::<Step<M, P, V, W, D>>(&mut seat, word, from, to);
+        let next = SeatTurn {
+            seat,
+            by: PhantomData,
+        };
+        (found, next)
+    }
+
+    /// The store that the table has. It tells of what was stored, and not of what it found.
+    #[inline(always)]
+    pub fn store<R, D>(
+        self,
+        at: &Shared<S, View<Played<M, P, V, C>>, (), R>,
+        word: usize,
+        put: u64,
+    ) -> SeatTurn<S, Played<M, P, V, C>, Goes>
+    where
+        M: Script<(), P, V>,
+        W: Way<V>,
+        R: TableRule<S, View<Played<M, P, V, C>>, ()>,
+        D: Play<S, View<Played<M, P, V, C>>>,
+        requires own { self.seat.table_id ≡ at.now.table_id }
+        requires inside { word < at.now.table_id.words }
+        requires may { MayStep (M.model tt) M.names W.coming word (λ w. intents.Store w put) self.seat.me.0.tally.parties }
+        requires update { Allows (R.holds at.now.key) at.now.table_id.slots self.seat.id self.seat.me word (λ _. put) (λ _ after. Went (M.model tt) W.coming self.seat.me.0.tally.parties put after.0.tally.parties × D.then (step at.now.table_id.slots word put 0 none) self.seat.me put after) }
+        ensures same { (result.seat.table_id ≡ self.seat.table_id) × (result.seat.id ≡ self.seat.id) }
+        ensures went { Went (M.model tt) W.coming self.seat.me.0.tally.parties put result.seat.me.0.tally.parties }
+        ensures told { D.then (step at.now.table_id.slots word put 0 none) self.seat.me put result.seat.me }
+    {
+        let SeatTurn { mut seat, by: _ } = self;
+        at.store::<Step<M, P, V, W, D>>(&mut seat, word, put);
+        SeatTurn {
+            seat,
+            by: PhantomData,
+        }
+    }
+}
+
+impl<S, M, P, V, C> SeatTurn<S, Played<M, P, V, C>, Goes> {
+    /// Calls a wait closure that answers whether the call may give up, at which the call stands. It is handed the word that the model
+    /// names for that place, and told what the model tells it there.
+    #[inline(always)]
+    pub fn ask<X: Shown, W: Fn(&X, &u64) -> WaitAction>(
+        self,
+        word: &Sealed<X>,
+        told: u64,
+        wait: &W,
+    ) -> SeatAnswered<S, Played<M, P, V, C>>
+    where
+        M: Script<(), P, V>,
+        requires word { X.object word.now.shown ≡ self.seat.table_id }
+        requires stands { StandsToWait (M.model tt) M.names M.handed (X.index word.now.shown) told self.seat.me.0.tally.parties }
+        requires may { W.IsAlwaysCallable wait.now }
+        ensures still { seat_in result ≡ self.seat }
+        ensures answered { MayAnswer W.Fn wait.now (λ n. n ≡ told) (action_heard result) }
+    {
+        let SeatTurn { seat, by: _ } = self;
+        match answer(&word.shown, told, wait) {
+            WaitAction::Continue => SeatAnswered::Continue(SeatTurn {
+                seat,
+                by: PhantomData,
+            }),
+            WaitAction::Abort => SeatAnswered::Abort(SeatTurn {
+                seat,
+                by: PhantomData,
+            }),
+        }
+    }
+
+    /// Calls the wake closure that the call is to call next, of the word that the model names for that place.
+    #[inline(always)]
+    pub fn wake<X: Shown, W: Fn(&X)>(
+        self,
+        word: &Sealed<X>,
+        wake: &W,
+    ) -> SeatTurn<S, Played<M, P, V, C>, AfterAside>
+    where
+        M: Script<(), P, V>,
+        requires word { X.object word.now.shown ≡ self.seat.table_id }
+        requires wakes { IsToWake (M.model tt) M.names M.handed (X.index word.now.shown) self.seat.me.0.tally.parties }
+        requires may { W.IsAlwaysCallable wake.now }
+        ensures still { result.seat ≡ self.seat }
+        ensures woke { FnReturnsAt W.Fn wake.now word.now.shown tt }
+    {
+        let SeatTurn { seat, by: _ } = self;
+        call(wake, &word.shown);
+        SeatTurn {
+            seat,
+            by: PhantomData,
+        }
+    }
+
+    /// The call has been answered. Gives the seat back.
+    #[inline(always)]
+    pub fn end(self) -> Seat<S, View<Played<M, P, V, C>>>
+    where
+        M: Script<(), P, V>,
+        requires over { IsOver (M.model tt) self.seat.me.0.tally.parties }
+        ensures still { result ≡ self.seat }
+    {
+        let SeatTurn { seat, by: _ } = self;
+        seat
+    }
+}
+
+impl<S, M, P, V, C> SeatTurn<S, Played<M, P, V, C>, AfterAside> {
+    /// The call has been answered, once it has woken. Gives the seat back.
+    #[inline(always)]
+    pub fn end_aside(self) -> Seat<S, View<Played<M, P, V, C>>>
+    where
+        M: Script<(), P, V>,
+        requires over { IsOverAside (M.model tt) self.seat.me.0.tally.parties }
+        ensures still { result ≡ self.seat }
+    {
+        let SeatTurn { seat, by: _ } = self;
+        seat
+    }
+}

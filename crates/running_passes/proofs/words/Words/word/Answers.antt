@@ -1,0 +1,5 @@
+use Rattle.std.proofs.Common.{rules}
+use Rattle.running_passes.proofs.words.Words.word.Goals as goal
+
+pub returns : goal.returns
+returns g c = search rules

@@ -1,0 +1,14 @@
+-- The model that a barrier plays.
+use Rattle.std.proofs.Common.{arith}
+use Rattle.running_tallies.specs.Names.{ℕ, ◌%◌, ◌^◌, List, Event, u64_arithmetic, Model, IsPast}
+use Rattle.model_barrier.specs.declared.BarrierPlace.{BarrierPlace}
+use Rattle.model_barrier.specs.Table.{barrier_table}
+use Rattle.model_barrier.specs.Law.{KeepsBarrier}
+use Rattle.model_barrier.proofs.Laws.{keeps_barrier}
+
+abbrev pub barrier_model : ℕ → Model ℕ BarrierPlace
+barrier_model n = record { arithmetic = u64_arithmetic; table = barrier_table n; law = KeepsBarrier n }
+
+-- every run keeps the barrier's law, for whatever number of waiters
+pub barrier_lawful : (key parties : ℕ) (past : List (Event ℕ)) → IsPast u64_arithmetic (barrier_table (key % 2 ^ 32)) parties past → KeepsBarrier (key % 2 ^ 32) past
+barrier_lawful key parties past run = keeps_barrier u64_arithmetic (key % 2 ^ 32) parties past (omega arith) run

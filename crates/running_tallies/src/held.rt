@@ -1,0 +1,74 @@
+//! What a pass of a reader-writer lock counts.
+ghost use Rattle.std.specs.Prelude.{Bool};
+
+use running_model::Counts;
+use running_passes::{Rule, Tally};
+
+/// What a hold knows of what is kept under its lock, as plain data of which no value is made. It can be told whether two holds know
+/// the same.
+pub trait Known {
+    ghost use Rattle.running_tallies.specs.Held.{TellsSame};
+
+    // Whether both are the same.
+    ghost same: { Self → Self → Bool };
+
+    ghost tells: { TellsSame same };
+}
+
+/// Nothing is kept under the lock that its holds know of.
+impl Known for () {
+    ghost use Rattle.running_tallies.specs.HeldTally.{same_nothing, tells_same_nothing};
+
+    ghost same = { same_nothing };
+
+    ghost tells = { tells_same_nothing };
+}
+
+/// What a pass of a reader-writer lock counts: its holds, with what each of them knows. No value of it is made.
+pub enum Held<X> {
+    /// No hold stands.
+    Free,
+    /// One read hold more than this stands, and each knows this.
+    Reading(u64, X),
+    /// One write hold stands, which knows what is kept, and what was kept when it came in.
+    Writing(X, X),
+    /// More stands than may: a write hold beside another hold, or holds that know different things.
+    Torn,
+}
+
+impl<X: Known> Tally for Held<X> {
+    ghost use Rattle.running_tallies.specs.declared.held.Held.TheVariants.{Free};
+    ghost use Rattle.running_tallies.specs.Held.{both_held};
+    ghost use Rattle.running_tallies.specs.HeldTally.{held_adds_up};
+
+    ghost none = { Free };
+
+    ghost add = { both_held X.same };
+
+    ghost core = { λ _. Free };
+
+    ghost adds_up = { held_adds_up X.same X.tells };
+}
+
+/// The lock's word is the number of read holds of all passes, 2^64 - 2 at most, or 2^64 - 1 with one write hold and no other.
+impl Rule<(), ()> for Held<()> {
+    ghost use Rattle.running_tallies.specs.RwReaderRule.{no_holds, RwReaderAgrees};
+
+    ghost first = { λ _. no_holds };
+
+    ghost agrees = { λ _. RwReaderAgrees };
+}
+
+/// All passes together have as many holds of each kind as the parties of the run.
+impl Counts<(), u64> for Held<()> {
+    ghost use Rattle.std.proofs.Common.{refl};
+    ghost use Rattle.model_rw_reader.specs.Table.{rw_reader_table};
+    ghost use Rattle.running_tallies.specs.RwReaderRule.{AreHoldsIn};
+    ghost use Rattle.running_tallies.specs.RwReaderTally.{holds_stay};
+
+    ghost follow = { λ _. AreHoldsIn rw_reader_table };
+
+    ghost stays = { λ _. holds_stay rw_reader_table };
+
+    ghost opens = { λ _. record { reads = refl; writes = refl } };
+}

@@ -1,5 +1,0 @@
-use Rattle.running_atomic.specs.AtomicShown.{HasStayed}
-use Rattle.running_tests.proofs.tests.atomic.add_often.Given as goal
-
-abbrev pub invariant-loop : goal.invariant-loop
-invariant-loop g l = HasStayed l.fn.pass l.pass

@@ -1,5 +1,0 @@
-use Rattle.running_rw_writer.specs.RwWriterShown.{HasStayed}
-use Rattle.rw_value_tests.proofs.tests.threads.count_up.Given as goal
-
-abbrev pub invariant-loop : goal.invariant-loop
-invariant-loop g l = record { stayed : HasStayed l.fn.pass l.pass }

@@ -1,7 +1,0 @@
-use Rattle.steps_events.specs.Integers.{u128_arithmetic}
-use Rattle.running_atomic.proofs.Additions.{joins_added}
-use Rattle.shared_sum.specs.declared.TheConstants.{STEP}
-use Rattle.shared_sum.proofs.add_by_four.Goals as goal
-
-pub returns-clause-added : goal.returns-clause-added
-returns-clause-added g c = joins_added STEP u128_arithmetic 2000 2000 c.join-one.result.0 c.join-one.result.1 c.in-Ok-join.pass c.in-Ok-join.ensures.joined c.join-one.ensures.first.2 c.join-one.ensures.second.2

@@ -1,5 +1,0 @@
-use Rattle.running_mutex.specs.CondShown.{IsCondPass}
-use Rattle.sleep_tests.proofs.tests.notified.notify_often.Given as goal
-
-abbrev pub invariant-loop : goal.invariant-loop
-invariant-loop g l = IsCondPass l.condvar l.pass

@@ -1,5 +1,0 @@
-use Rattle.running_spin_lock.specs.SpinShown.{HasStayed}
-use Rattle.spin_counter.proofs.add_often.Given as goal
-
-abbrev pub invariant-loop : goal.invariant-loop
-invariant-loop g l = HasStayed l.fn.pass l.pass

@@ -1,5 +1,0 @@
-use Rattle.steps_atomic.proofs.Data.{keeps_atomic}
-use Rattle.steps_atomic.proofs.at_every_front.Goals as goal
-
-pub returns : goal.returns
-returns g c = λ v parties past is run. keeps_atomic g.T.AtomicInteger.arithmetic c.closed.ensures v parties past is run

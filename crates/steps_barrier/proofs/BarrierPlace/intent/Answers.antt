@@ -1,5 +1,0 @@
-use Rattle.steps_barrier.proofs.Names.{rules}
-use Rattle.steps_barrier.proofs.BarrierPlace.intent.Goals as goal
-
-pub returns-in-Wake : goal.returns-in-Wake
-returns-in-Wake g c = search rules

@@ -1,5 +1,0 @@
-use Rattle.steps_barrier.proofs.Laws.{keeps_barrier}
-use Rattle.steps_barrier.proofs.at_every_front.Goals as goal
-
-pub returns : goal.returns
-returns g c = λ z n parties past fits run. keeps_barrier z n parties past fits run

@@ -1,5 +1,0 @@
-use Rattle.steps_lazy.proofs.Laws.{keeps_lazy}
-use Rattle.steps_lazy.proofs.at_every_front.Goals as goal
-
-pub returns : goal.returns
-returns g c = λ z v parties past run. keeps_lazy z v parties past run

@@ -1,5 +1,0 @@
-use Rattle.steps_once.proofs.Names.{rules}
-use Rattle.steps_once.proofs.OncePlace.answered.Goals as goal
-
-pub returns : goal.returns
-returns c = search rules

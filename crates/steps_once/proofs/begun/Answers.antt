@@ -1,5 +1,0 @@
-use Rattle.steps_once.proofs.Names.{rules}
-use Rattle.steps_once.proofs.begun.Goals as goal
-
-pub returns-clause-begun : goal.returns-clause-begun
-returns-clause-begun c = search rules

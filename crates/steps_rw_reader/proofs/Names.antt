@@ -1,7 +1,0 @@
--- The lemmas of others that this crate cites.
-pub use Rattle.std.proofs.Common.{◌≡◌, ℕ, List, [], ◌∷◌, Option, Some, None, arith, ◌+◌, ◌-◌, ◌^◌, ◌<◌, ◌≤◌, ◌==◌, refl, sym, ◌∙◌, subst, Bool, true, false, cond, is_some, ◌⊎◌, ◌↔◌, ◌≢◌, ◌%◌, ap, length, inl, inr, rules}
-pub use Rattle.std.proofs.lemmas.Bool.{eqb-false, eqb-true}
-pub use Rattle.std.proofs.lemmas.Bool.Decides.{nat_tests}
-pub use Rattle.steps_events.proofs.Asks.{waits_first, waits_as, spins_no_more, refused_asks, both_kept}
-pub use Rattle.steps_events.proofs.Parties.{IsKept, at_place}
-pub use Rattle.steps_events.proofs.Steps.{tells_memory, by_move}

@@ -1,5 +1,0 @@
-use Rattle.steps_semaphore.proofs.Laws.{keeps_semaphore}
-use Rattle.steps_semaphore.proofs.at_every_front.Goals as goal
-
-pub returns : goal.returns
-returns g c = λ z initial parties past fits run. keeps_semaphore z initial parties past fits run

@@ -1,5 +1,0 @@
-use Rattle.steps_spin.proofs.Laws.{keeps_spin}
-use Rattle.steps_spin.proofs.at_every_front.Goals as goal
-
-pub returns : goal.returns
-returns g c = λ z parties past run. keeps_spin z parties past run

@@ -1,5 +1,0 @@
-use Rattle.std.specs.Prelude.{◌≡◌}
-use Rattle.storm.proofs.crowd.take_turns.Given as goal
-
-abbrev pub invariant-loop-turn : goal.invariant-loop-turn
-invariant-loop-turn g l = g.P.Shares.idle l.object l.pass × (g.P.Shares.part l.pass ≡ g.P.Shares.part l.fn.pass)

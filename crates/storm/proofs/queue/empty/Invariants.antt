@@ -1,5 +1,0 @@
-use Rattle.job_queue.specs.QueueShown.{IsQueuePass}
-use Rattle.storm.proofs.queue.empty.Given as goal
-
-abbrev pub invariant-loop : goal.invariant-loop
-invariant-loop g l = IsQueuePass l.queue l.pass

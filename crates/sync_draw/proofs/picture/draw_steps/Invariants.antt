@@ -1,7 +1,0 @@
-use Rattle.std.proofs.Common.{◌≡◌, take}
-use Rattle.markup.specs.Group.{titles_of}
-use Rattle.sync_draw.specs.Picture.{step_titles}
-use Rattle.sync_draw.proofs.picture.draw_steps.Given as goal
-
-abbrev pub invariant-loop-step : goal.invariant-loop-step
-invariant-loop-step g l = titles_of l.groups.items ≡ step_titles (take l.step-index l.story.steps.items)

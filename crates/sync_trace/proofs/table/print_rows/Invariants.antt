@@ -1,8 +1,0 @@
-use Rattle.sync_trace.specs.Names.{string_bytes}
-use Rattle.sync_trace.proofs.Names.{◌≡◌, ◌++◌, take}
-use Rattle.sync_trace.specs.Rows.{entries}
-use Rattle.sync_trace.specs.Table.{row_lines}
-use Rattle.sync_trace.proofs.table.print_rows.Given as goal
-
-abbrev pub invariant-loop-row : goal.invariant-loop-row
-invariant-loop-row g l = string_bytes l.out ≡ string_bytes l.initial.out ++ row_lines l.widths (entries (take l.row-index l.rows))

@@ -1,7 +1,0 @@
-use Rattle.sync_trace.proofs.Names.{◌≡◌, take}
-use Rattle.sync_trace.specs.Rows.{entries}
-use Rattle.sync_trace.specs.Table.{titles, widened_by}
-use Rattle.sync_trace.proofs.table.widths_of.Given as goal
-
-abbrev pub invariant-loop-row : goal.invariant-loop-row
-invariant-loop-row g l = l.widths ≡ widened_by (entries (take l.row-index l.rows)) titles

@@ -1,0 +1,23 @@
+//! What no clause says: that the calls succeed with ample memory, how often they call their closures, and threads that really meet.
+//!
+//! A closure that is written at its call is four functions to the prover, and a named function that is handed in is three for the whole
+//! crate. So a closure that captures nothing has a name.
+mod condition_variable;
+mod condition_variable_parts;
+mod mutex;
+mod party;
+mod rwreader;
+mod rwwriter;
+mod sleepers;
+
+ghost use Rattle.std.specs.Prelude.{◌≡◌};
+ghost use Rattle.model_events.specs.declared.WaitAction.TheVariants.{Abort};
+
+use iceoryx2_pal_concurrency_sync::{WaitAction, WaitWord};
+
+/// A wait closure that gives up at once.
+fn give_up(_word: &WaitWord, _seen: &u64) -> WaitAction
+    ensures { result ≡ Abort }
+{
+    WaitAction::Abort
+}

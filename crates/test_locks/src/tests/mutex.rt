@@ -1,0 +1,417 @@
+//! The running mutex.
+ghost use Rattle.std.specs.Prelude.{◌≡◌, ◌+◌, false, IfOk};
+ghost use Rattle.running_passes.specs.Passes.{sights_of};
+ghost use Rattle.running_mutex.specs.MutexShown.{IsMutexPass, IsAlone, HasStayed, grants_of};
+
+use super::give_up;
+use super::party::{self, Party};
+use iceoryx2_pal_concurrency_sync::strategy::mutex::{Mutex, MutexPass};
+use iceoryx2_pal_concurrency_sync::{
+    WaitAction, WaitResult, WaitWord, wake_nobody, yield_and_go_on,
+};
+use std::alloc::{AllocError, Global};
+use std::sync::Wait;
+use std::test::Fail;
+use std::thread;
+use std::thread::Threads;
+use test_signal::Gathering;
+
+/// A new mutex, and two parts of its pass.
+pub(super) fn in_two_parts(alloc: Global) -> Result<(Mutex, MutexPass, MutexPass), AllocError>
+    ensures own { IfOk result (λ made. IsMutexPass made.0 made.1 × IsMutexPass made.0 made.2) }
+{
+    let (mutex, pass) = Mutex::new(alloc)?;
+    match pass.split(&mutex) {
+        Ok((one, two)) => Ok((mutex, one, two)),
+        Err(_) => unreachable!(),
+    }
+}
+
+/// Locks and unlocks, with a wait closure that always goes on: that is never interrupted.
+fn lock_and_unlock<R: Wait>(rt: &R, mutex: &Mutex, pass: &mut MutexPass)
+    requires own { IsMutexPass mutex.now pass.old }
+    ensures stayed { HasStayed pass.old pass.new }
+{
+    match Mutex::lock(pass, mutex, rt, yield_and_go_on) {
+        WaitResult::Success(hold) => {
+            mutex.unlock(hold, wake_nobody);
+        }
+        WaitResult::Interrupted => unreachable!(),
+    }
+}
+
+fn lock_and_unlock_often<R: Wait>(rt: &R, mutex: &Mutex, mut pass: MutexPass) -> MutexPass
+    requires own { IsMutexPass mutex.now pass }
+    ensures stayed { HasStayed pass result }
+{
+    for _ in 0..100u64 {
+        lock_and_unlock(rt, mutex, &mut pass);
+    }
+    pass
+}
+
+/// Two threads lock and unlock in turn. After the join the whole pass is granted.
+fn lock_in_two_threads<R: Threads + Wait + Sync>(
+    rt: &R,
+    mutex: &Mutex,
+    pass: MutexPass,
+) -> MutexPass
+    requires own { IsMutexPass mutex.now pass }
+    requires alone { IsAlone pass }
+    ensures own { IsMutexPass mutex.now result }
+    ensures alone { IsAlone result }
+{
+    let Ok((one, two)) = pass.split(mutex) else {
+        unreachable!()
+    };
+    let (one, two) = thread::join(
+        rt,
+        || -> MutexPass
+            requires { IsMutexPass mutex.now one }
+            ensures { HasStayed one result }
+        { lock_and_unlock_often(rt, mutex, one) },
+        || -> MutexPass
+            requires { IsMutexPass mutex.now two }
+            ensures { HasStayed two result }
+        { lock_and_unlock_often(rt, mutex, two) },
+    );
+    let Ok(mut pass) = MutexPass::join(one, two, mutex) else {
+        unreachable!()
+    };
+    match Mutex::try_lock(&mut pass, mutex) {
+        WaitResult::Success(hold) => {
+            mutex.unlock(hold, wake_nobody);
+        }
+        WaitResult::Interrupted => unreachable!(),
+    }
+    pass
+}
+
+#[test]
+fn two_threads_lock_in_turn(rt: HostRuntime) -> Result<(), Fail> {
+    let (mutex, pass) = Mutex::new(rt.alloc())?;
+    lock_in_two_threads(&rt, &mutex, pass);
+    Ok(())
+}
+
+/// A party at a mutex.
+#[derive(Drop)]
+struct MutexParty<'m> {
+    mutex: &'m Mutex,
+    pass: MutexPass,
+    ghost own: { IsMutexPass mutex.now pass },
+}
+
+impl Party for MutexParty<'_> {
+    fn try_to<T, F: FnOnce() -> T>(&mut self, wakes: &Gathering, act: F) -> Option<T> {
+        try_to(self.mutex, &mut self.pass, wakes, act)
+    }
+
+    fn wait_to<T, R: Wait, W: Fn(&WaitWord, &u64) -> WaitAction, F: FnOnce() -> T>(
+        &mut self,
+        rt: &R,
+        wait: W,
+        wakes: &Gathering,
+        act: F,
+    ) -> Option<T> {
+        wait_to(rt, self.mutex, &mut self.pass, wait, wakes, act)
+    }
+}
+
+/// Tries to lock, acts while it has the hold, and unlocks: a party's `try_to`.
+fn try_to<T, F: FnOnce() -> T>(
+    mutex: &Mutex,
+    pass: &mut MutexPass,
+    wakes: &Gathering,
+    act: F,
+) -> Option<T>
+    requires own { IsMutexPass mutex.now pass.old }
+    requires may { F.IsAlwaysCallable act }
+    ensures stayed { HasStayed pass.old pass.new }
+{
+    match Mutex::try_lock(pass, mutex) {
+        WaitResult::Success(hold) => {
+            let acted = act();
+            mutex.unlock(hold, |word| wakes.wake_one(word.load()));
+            Some(acted)
+        }
+        WaitResult::Interrupted => None,
+    }
+}
+
+/// The same by `lock`.
+fn wait_to<T, R: Wait, W: Fn(&WaitWord, &u64) -> WaitAction, F: FnOnce() -> T>(
+    rt: &R,
+    mutex: &Mutex,
+    pass: &mut MutexPass,
+    wait: W,
+    wakes: &Gathering,
+    act: F,
+) -> Option<T>
+    requires own { IsMutexPass mutex.now pass.old }
+    requires may { W.IsAlwaysCallable wait × F.IsAlwaysCallable act }
+    ensures stayed { HasStayed pass.old pass.new }
+{
+    match Mutex::lock(pass, mutex, rt, wait) {
+        WaitResult::Success(hold) => {
+            let acted = act();
+            mutex.unlock(hold, |word| wakes.wake_one(word.load()));
+            Some(acted)
+        }
+        WaitResult::Interrupted => None,
+    }
+}
+
+#[test]
+fn one_holder_at_a_time(rt: HostRuntime) -> Result<(), Fail> {
+    let (mutex, one, two) = in_two_parts(rt.alloc())?;
+    let mut holder = MutexParty {
+        mutex: &mutex,
+        pass: one,
+    };
+    let mut other = MutexParty {
+        mutex: &mutex,
+        pass: two,
+    };
+    let answers = party::refused_beside(&rt, &mut holder, &mut other);
+    assert_eq!(rt; answers, Some((true, (true, (1, 1, 1)), false)));
+    Ok(())
+}
+
+#[test]
+fn a_free_mutex_is_granted_unasked(rt: HostRuntime) -> Result<(), Fail> {
+    let (mutex, pass) = Mutex::new(rt.alloc())?;
+    let mut alone = MutexParty {
+        mutex: &mutex,
+        pass,
+    };
+    let wakes = Gathering::new();
+    let waited = party::wait_and_abort(&rt, &mut alone, &wakes);
+    assert_eq!(rt; (waited, wakes.gathered()), ((false, (0, 0, 0)), (2, 0)));
+    Ok(())
+}
+
+/// Locks where the mutex is free, with a closure that never answers `Continue`: a call that gives up has then looked 10002 times.
+fn lock_or_abort_at_once<R: Wait>(rt: &R, mutex: &Mutex, pass: &mut MutexPass) -> bool
+    requires { IsMutexPass mutex.now pass.old }
+    ensures stayed { HasStayed pass.old pass.new }
+    ensures looked { result ≡ false → (sights_of pass.new).count ≡ (sights_of pass.old).count + 10002 }
+{
+    let answer = mutex.with_lock(rt, pass, give_up, wake_nobody, || ());
+    match answer {
+        WaitResult::Success(()) => true,
+        WaitResult::Interrupted => false,
+    }
+}
+
+/// The same while `one` has the hold.
+fn abort_at_once_while_held<R: Wait>(
+    rt: &R,
+    mutex: &Mutex,
+    one: &mut MutexPass,
+    two: &mut MutexPass,
+) -> Option<bool>
+    requires { IsMutexPass mutex.now one.old × IsMutexPass mutex.now two.old }
+{
+    match Mutex::try_lock(one, mutex) {
+        WaitResult::Success(hold) => {
+            let locked = lock_or_abort_at_once(rt, mutex, two);
+            mutex.unlock(hold, wake_nobody);
+            Some(locked)
+        }
+        WaitResult::Interrupted => None,
+    }
+}
+
+#[test]
+fn gives_up_after_10002_looks(rt: HostRuntime) -> Result<(), Fail> {
+    let (mutex, mut one, mut two) = in_two_parts(rt.alloc())?;
+    let free = lock_or_abort_at_once(&rt, &mutex, &mut one);
+    let held = abort_at_once_while_held(&rt, &mutex, &mut one, &mut two);
+    assert_eq!(rt; (free, held), (true, Some(false)));
+    Ok(())
+}
+
+/// A call that went on after `Abort` would lock the mutex once the other thread lets it go.
+#[test]
+fn an_abort_is_obeyed(rt: HostRuntime) -> Result<(), Fail> {
+    let (mutex, one, two) = in_two_parts(rt.alloc())?;
+    let mut holder = MutexParty {
+        mutex: &mutex,
+        pass: one,
+    };
+    let mut other = MutexParty {
+        mutex: &mutex,
+        pass: two,
+    };
+    let over_and_asked = party::aborts_beside(&rt, &mut holder, &mut other);
+    assert_eq!(rt; over_and_asked, (Some(true), Some(1)));
+    Ok(())
+}
+
+#[test]
+fn unlock_wakes_once_after_its_store(rt: HostRuntime) -> Result<(), Fail> {
+    let (mutex, pass) = Mutex::new(rt.alloc())?;
+    let mut alone = MutexParty {
+        mutex: &mutex,
+        pass,
+    };
+    assert_eq!(rt; party::woken(&mut alone), Some((2, 0)));
+    Ok(())
+}
+
+#[test]
+fn two_calls_meet_and_success_after_abort(rt: HostRuntime) -> Result<(), Fail> {
+    for action in [WaitAction::Abort, WaitAction::Continue] {
+        let (mutex, one, two) = in_two_parts(rt.alloc())?;
+        let mut holder = MutexParty {
+            mutex: &mutex,
+            pass: one,
+        };
+        let mut other = MutexParty {
+            mutex: &mutex,
+            pass: two,
+        };
+        let met_and_noted = party::let_in_beside(&rt, &mut holder, &mut other, action);
+        assert_eq!(rt; met_and_noted, (true, Some((1, 1, 1))));
+    }
+    Ok(())
+}
+
+/// Parts a pass of which nothing is known but that it is whole, in three, and joins them again: that one is granted.
+fn part_and_join(mutex: &Mutex, pass: MutexPass) -> MutexPass
+    requires own { IsMutexPass mutex.now pass }
+    requires alone { IsAlone pass }
+    ensures own { IsMutexPass mutex.now result }
+    ensures alone { IsAlone result }
+{
+    let Ok((one, other)) = pass.split(mutex) else {
+        unreachable!()
+    };
+    let Ok((two, three)) = other.split(mutex) else {
+        unreachable!()
+    };
+    let Ok(other) = MutexPass::join(two, three, mutex) else {
+        unreachable!()
+    };
+    let Ok(mut pass) = MutexPass::join(one, other, mutex) else {
+        unreachable!()
+    };
+    match Mutex::try_lock(&mut pass, mutex) {
+        WaitResult::Success(hold) => {
+            mutex.unlock(hold, wake_nobody);
+        }
+        WaitResult::Interrupted => unreachable!(),
+    }
+    pass
+}
+
+#[test]
+fn parts_are_the_whole_again(rt: HostRuntime) -> Result<(), Fail> {
+    let (mutex, pass) = Mutex::new(rt.alloc())?;
+    let pass = part_and_join(&mutex, pass);
+    let mut whole = MutexParty {
+        mutex: &mutex,
+        pass,
+    };
+    assert!(rt; !party::is_refused(&mut whole));
+    Ok(())
+}
+
+/// Parts a pass of which nothing is known but that it is whole, in four, and joins them from left to right: the whole is there again.
+fn part_in_four_and_join(mutex: &Mutex, pass: MutexPass) -> MutexPass
+    requires own { IsMutexPass mutex.now pass }
+    requires alone { IsAlone pass }
+    ensures own { IsMutexPass mutex.now result }
+    ensures alone { IsAlone result }
+{
+    let Ok((left, right)) = pass.split(mutex) else {
+        unreachable!()
+    };
+    let Ok((one, two)) = left.split(mutex) else {
+        unreachable!()
+    };
+    let Ok((three, four)) = right.split(mutex) else {
+        unreachable!()
+    };
+    let Ok(pass) = MutexPass::join(one, two, mutex) else {
+        unreachable!()
+    };
+    let Ok(pass) = MutexPass::join(pass, three, mutex) else {
+        unreachable!()
+    };
+    let Ok(pass) = MutexPass::join(pass, four, mutex) else {
+        unreachable!()
+    };
+    pass
+}
+
+#[test]
+fn four_parts_are_the_whole_from_left_to_right(rt: HostRuntime) -> Result<(), Fail> {
+    let (mutex, pass) = Mutex::new(rt.alloc())?;
+    let pass = part_in_four_and_join(&mutex, pass);
+    let mut whole = MutexParty {
+        mutex: &mutex,
+        pass,
+    };
+    assert!(rt; !party::is_refused(&mut whole));
+    Ok(())
+}
+
+/// A struct that owns a mutex and its pass, and how often it was entered.
+#[derive(Drop)]
+struct Counted {
+    mutex: Mutex,
+    pass: MutexPass,
+    entered: u64,
+    ghost own: { IsMutexPass mutex pass },
+    ghost alone: { IsAlone pass },
+}
+
+impl Counted {
+    /// What stood before.
+    fn enter<R: Wait>(&mut self, rt: &R) -> u64
+        ensures before { result ≡ self.old.entered }
+        ensures grants { grants_of self.new.pass ≡ grants_of self.old.pass + 1 }
+    {
+        let entered = self.entered;
+        let answer = self.mutex.with_lock(
+            rt,
+            &mut self.pass,
+            yield_and_go_on,
+            wake_nobody,
+            move || entered,
+        );
+        self.entered = entered.wrapping_add(1);
+        match answer {
+            WaitResult::Success(before) => before,
+            WaitResult::Interrupted => unreachable!(),
+        }
+    }
+}
+
+#[test]
+fn locks_within_a_method(rt: HostRuntime) -> Result<(), Fail> {
+    let (mutex, pass) = Mutex::new(rt.alloc())?;
+    let mut counted = Counted {
+        mutex,
+        pass,
+        entered: 0,
+    };
+    let first = counted.enter(&rt);
+    assert_eq!(rt; (first, counted.enter(&rt)), (0, 1));
+    Ok(())
+}
+
+#[test]
+fn acts_while_the_mutex_is_locked(rt: HostRuntime) -> Result<(), Fail> {
+    let (mutex, mut one, two) = in_two_parts(rt.alloc())?;
+    let mut other = MutexParty {
+        mutex: &mutex,
+        pass: two,
+    };
+    let act = || party::is_refused(&mut other);
+    let inside = mutex.with_lock(&rt, &mut one, yield_and_go_on, wake_nobody, act);
+    assert_eq!(rt; matches!(inside, WaitResult::Success(true)), true);
+    Ok(())
+}

@@ -1,0 +1,18 @@
+use Rattle.test_passes.specs.Names.{Word, Call, Intent, Answer, HasCalled, parties_of}
+use Rattle.test_passes.proofs.Names.{refl, sym, subst, ◌∙◌, None, is_over}
+use Rattle.test_passes.specs.Staging.{counter_model}
+use Rattle.test_passes.proofs.Staging.{begins, may, counts_nothing}
+use Rattle.test_passes.proofs.tests.staging.deed_to_load.Goals as goal
+
+pub load_by-found-requires-clause-may : goal.load_by-found-requires-clause-may
+load_by-found-requires-clause-may c = may Call.Value _ _ refl refl tt refl
+
+pub load_by-found-requires-clause-update : goal.load_by-found-requires-clause-update
+load_by-found-requires-clause-update c = counts_nothing _ _ _
+
+pub end-pass-requires-clause-over : goal.end-pass-requires-clause-over
+end-pass-requires-clause-over c = is_over counter_model Call.Value _ _ _ _ (c.load_by-found.ensures.went Call.Value (Intent.Load Word.State) _ _ (begins Call.Value (Intent.Load Word.State) _ refl refl tt))
+
+pub returns-clause-looked : goal.returns-clause-looked
+returns-clause-looked c = subst (λ q. HasCalled counter_model Call.Value (Answer.Number c.load_by-found.result.0) None (parties_of c.args.pass.now) (parties_of q)) (sym (c.pass-1.given.1 (sym c.begin_new-begun.ensures.same_borrow ∙ sym c.load_by-found.ensures.same_borrow ∙ sym c.end-pass.ensures.same_borrow) ∙ c.end-pass.ensures.still))
+    (subst (λ p. HasCalled counter_model Call.Value (Answer.Number c.load_by-found.result.0) None (parties_of p) (parties_of c.load_by-found.result.1.pass.now)) c.begin_new-begun.ensures.still (c.load_by-found.ensures.went Call.Value (Intent.Load Word.State) _ _ (begins Call.Value (Intent.Load Word.State) _ refl refl tt)))

@@ -1,0 +1,14 @@
+use Rattle.test_passes.specs.Names.{Word, Call, Intent}
+use Rattle.test_passes.proofs.Names.{refl, is_over}
+use Rattle.test_passes.specs.Staging.{counter_model}
+use Rattle.test_passes.proofs.Staging.{begins, may, counts_nothing}
+use Rattle.test_passes.proofs.tests.staging.deed_to_store.Goals as goal
+
+pub store_by-made-requires-clause-may : goal.store_by-made-requires-clause-may
+store_by-made-requires-clause-may c = may Call.NotifyAll _ _ refl refl tt refl
+
+pub store_by-made-requires-clause-update : goal.store_by-made-requires-clause-update
+store_by-made-requires-clause-update c = counts_nothing _ _ _
+
+pub end-pass-requires-clause-over : goal.end-pass-requires-clause-over
+end-pass-requires-clause-over c = is_over counter_model Call.NotifyAll _ _ _ _ (c.store_by-made.ensures.went Call.NotifyAll (Intent.Store Word.State 0) _ _ (begins Call.NotifyAll (Intent.Store Word.State 0) _ refl refl tt))

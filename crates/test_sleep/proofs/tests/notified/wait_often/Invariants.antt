@@ -1,0 +1,6 @@
+use Rattle.running_mutex.specs.MutexShown.{IsMutexPass}
+use Rattle.running_mutex.specs.CondShown.{IsCondPass}
+use Rattle.test_sleep.proofs.tests.notified.wait_often.Given as goal
+
+abbrev pub invariant-loop : goal.invariant-loop
+invariant-loop g l = IsCondPass l.condvar l.pass × IsMutexPass l.mutex l.mtx_pass

@@ -1,0 +1,149 @@
+//! What is said of each object.
+ghost use Rattle.std.specs.Prelude.{◌≡◌};
+ghost use Rattle.text_advice.specs.Advice as meaning;
+
+use model_events::event::Object;
+use text_lines::call::{calls_of, named};
+
+/// That it has no call of a name, up to the name.
+pub fn has_no_call(object: Object<()>) -> &'static [u8]
+    ensures { result.now ≡ meaning.has_no_call object }
+{
+    match object {
+        Object::Mutex => b"a mutex has no call `",
+        Object::Spin => b"a spin lock has no call `",
+        Object::Semaphore(_) => b"a semaphore has no call `",
+        Object::Barrier(_) => b"a barrier has no call `",
+        Object::ReaderLock | Object::WriterLock => b"a reader-writer lock has no call `",
+        Object::Condvar => b"a condition variable has no call `",
+        Object::Once => b"a once has no call `",
+        Object::Lazy(_) => b"a lazy value has no call `",
+        Object::Atomic(_) => b"an atomic has no call `",
+    }
+}
+
+/// What its first line has, up to a line that opens it.
+pub fn first_line(object: Object<()>) -> &'static [u8]
+    ensures { result.now ≡ meaning.first_line object }
+{
+    match object {
+        Object::Mutex => b"a mutex's first line has a number of parties, and no value: ",
+        Object::Spin => b"a spin lock's first line has a number of parties, and no value: ",
+        Object::Semaphore(_) => {
+            b"a semaphore's first line has a number of parties, and a value: "
+        }
+        Object::Barrier(_) => {
+            b"a barrier's first line has a number of parties, and how many open a round: "
+        }
+        Object::ReaderLock | Object::WriterLock => {
+            b"a reader-writer lock's first line has a number of parties, and no value: "
+        }
+        Object::Condvar => {
+            b"a condition variable's first line has a number of parties, and no value: "
+        }
+        Object::Once => b"a once's first line has a number of parties, and no value: ",
+        Object::Lazy(_) => {
+            b"a lazy value's first line has a number of parties, and the value that its closure gives: "
+        }
+        Object::Atomic(_) => { b"an atomic's first line has a number of parties, and a value: " }
+    }
+}
+
+/// The words after its name in a line that opens it for two parties.
+pub fn first_words(object: Object<()>) -> &'static [u8]
+    ensures { result.now ≡ meaning.first_words object }
+{
+    match object {
+        Object::Barrier(_) => b" 2 2",
+        Object::Semaphore(_) | Object::Lazy(_) | Object::Atomic(_) => b" 2 5",
+        Object::Mutex
+        | Object::Spin
+        | Object::ReaderLock
+        | Object::WriterLock
+        | Object::Condvar
+        | Object::Once => b" 2",
+    }
+}
+
+/// Which numbers its first line may have.
+pub fn first_numbers(object: Object<()>) -> &'static [u8]
+    ensures { result.now ≡ meaning.first_numbers object }
+{
+    match object {
+        Object::Barrier(_) => {
+            b"there are 1 to 64 parties, and 0 to 4294967295 arrivals open a round, in decimal digits"
+        }
+        Object::Semaphore(_) | Object::Lazy(_) => {
+            b"there are 1 to 64 parties, and the value is 0 to 18446744073709551615, in decimal digits"
+        }
+        Object::Atomic(_) => {
+            b"there are 1 to 64 parties, and the value is one of the atomic's type, in decimal digits"
+        }
+        Object::Mutex
+        | Object::Spin
+        | Object::ReaderLock
+        | Object::WriterLock
+        | Object::Condvar
+        | Object::Once => b"there are 1 to 64 parties, in decimal digits",
+    }
+}
+
+/// Which numbers follow its verbs.
+pub fn numbers_after(object: Object<()>) -> &'static [u8]
+    ensures { result.now ≡ meaning.numbers_after object }
+{
+    match object {
+        Object::Semaphore(_) => {
+            b"a number follows `post`, and may follow `go`, and none follows the others"
+        }
+        Object::Atomic(_) => {
+            b"two values follow `compare_exchange`, one follows `some` and each call but `load` and `fetch_update`, and a number may follow `go`"
+        }
+        _ => b"a number may follow `go`, and none follows the others",
+    }
+}
+
+/// The range of the numbers that follow.
+pub fn numbers_within(object: Object<()>) -> &'static [u8]
+    ensures { result.now ≡ meaning.numbers_within object }
+{
+    match object {
+        Object::Semaphore(_) => {
+            b"`go` makes 1 to 100000 steps, and `post` gives 0 to 18446744073709551615 permits"
+        }
+        Object::Atomic(_) => {
+            b"`go` makes 1 to 100000 steps, and a value is one of the atomic's type, in decimal digits"
+        }
+        _ => b"`go` makes 1 to 100000 steps",
+    }
+}
+
+/// The verbs that move a call of it on.
+pub fn verbs_of(object: Object<()>) -> &'static [u8]
+    ensures { result.now ≡ meaning.verbs_of object }
+{
+    match object {
+        Object::Atomic(_) => b"; a call under way: go, run, some, none",
+        Object::Spin | Object::Once | Object::Lazy(_) => b"; a call under way: go, run",
+        _ => b"; a call under way: go, run, wait, abort",
+    }
+}
+
+/// How its closure is answered.
+pub fn answers(object: Object<()>) -> &'static [u8]
+    ensures { result.now ≡ meaning.answers object }
+{
+    match object {
+        Object::Atomic(_) => {
+            b"the call stands at its closure, which answers `some` and a value, or `none`"
+        }
+        _ => b"the call stands at its closure, which answers `wait` or `abort`",
+    }
+}
+
+/// Whether it has a call that is written `start_wait`.
+pub fn has_start_wait(object: Object<()>) -> bool
+    ensures { result ≡ meaning.has_start_wait object }
+{
+    named(b"start_wait", calls_of(&object)).is_some()
+}

@@ -1,0 +1,235 @@
+-- Lines and words cut from the front, and numbers read digit by digit, are those of the definitions.
+use Rattle.text_lines.specs.Names.{is_ascii_digit}
+use Rattle.text_lines.proofs.Names.{◌≡◌, ◌≢◌, ℕ, suc, ◌+◌, ◌*◌, ◌-◌, ◌<◌, ◌≤◌, Bool, true, false, ◌&&◌, ◌==◌, eqb, ltb, cond, not, List, [], ◌∷◌, ◌++◌, length, get_or, take, drop, Option, Some, None, refl, sym, ap, subst, ◌∙◌, arith, add-one, drop-cons, le-ltb, lt-ltb}
+use Rattle.std.proofs.lemmas.List.{take_all, drop_all, length-drop}
+use Rattle.std.specs.List.{position, position_or_len}
+use Rattle.text_lines.specs.Lexer.{lines_of, onto_line, cut_line, words_of, is_blank, onto_word, before_bytes, number_from, fitting}
+
+-- Before the first element that passes, and from it on.
+
+abbrev pub before : {A : Type 0} → (A → Bool) → List A → List A
+before p [] = []
+before p (x ∷ xs) = cond (p x) [] (x ∷ before p xs)
+
+abbrev pub from : {A : Type 0} → (A → Bool) → List A → List A
+from p [] = []
+from p (x ∷ xs) = cond (p x) (x ∷ xs) (from p xs)
+
+before_step : {A : Type 0} (b : Bool) (x : A) (xs : List A) (n : ℕ) (ys : List A) → take n xs ≡ ys → take (cond (not b) (1 + n) 0) (x ∷ xs) ≡ cond b [] (x ∷ ys)
+before_step true x xs n ys h = refl
+before_step {A} false x xs n ys h = let e : 1 + n ≡ suc n = omega arith in rw e (ap (λ (l : List A). x ∷ l) h)
+
+before_is : {A : Type 0} (p : A → Bool) (xs : List A) → take (position_or_len p xs) xs ≡ before p xs
+before_is p [] = refl
+before_is p (x ∷ xs) = before_step (p x) x xs (position_or_len p xs) (before p xs) (before_is p xs)
+
+from_step : {A : Type 0} (b : Bool) (x : A) (xs : List A) (n : ℕ) (ys : List A) → drop n xs ≡ ys → drop (cond (not b) (1 + n) 0) (x ∷ xs) ≡ cond b (x ∷ xs) ys
+from_step true x xs n ys h = refl
+from_step false x xs n ys h = let e : 1 + n ≡ suc n = omega arith in rw e h
+
+from_is : {A : Type 0} (p : A → Bool) (xs : List A) → drop (position_or_len p xs) xs ≡ from p xs
+from_is p [] = refl
+from_is p (x ∷ xs) = from_step (p x) x xs (position_or_len p xs) (from p xs) (from_is p xs)
+
+chosen_some : (b : Bool) (n i : ℕ) → cond b (Some n) None ≡ Some i → (b ≡ true) × (n ≡ i)
+chosen_some true n i e = (refl, cc)
+chosen_some false n i e = absurd cc
+
+chosen_none : (b : Bool) (n : ℕ) → cond b (Some n) None ≡ None → b ≡ false
+chosen_none true n e = absurd cc
+chosen_none false n e = refl
+
+-- where the place of the first is known
+pub record CutsAt {A : Type 0} (p : A → Bool) (xs : List A) (i : ℕ) : Type 0 where
+  pub front : take i xs ≡ before p xs
+  pub back : drop i xs ≡ from p xs
+  pub within : i < length xs
+
+pub cut_at : {A : Type 0} (p : A → Bool) (xs : List A) (i : ℕ) → Some i ≡ position p xs → CutsAt p xs i
+cut_at {A} p xs i e =
+    let g = chosen_some (ltb (position_or_len p xs) (length xs)) (position_or_len p xs) i (sym e) in
+    subst (λ (n : ℕ). CutsAt p xs n) g.1 (record { front = before_is p xs; back = from_is p xs; within = grind (arith, g.0) })
+
+-- where there is none
+all_step : {A : Type 0} (b : Bool) (x : A) (xs front back : List A) (n : ℕ) → suc (length xs) ≤ cond (not b) (1 + n) 0 → (length xs ≤ n → (front ≡ xs) × (back ≡ []))
+    → (cond b [] (x ∷ front) ≡ x ∷ xs) × (cond b (x ∷ xs) back ≡ [])
+all_step true x xs front back n h k = absurd (omega arith)
+all_step {A} false x xs front back n h k = let known = k (omega arith) in (ap (λ (l : List A). x ∷ l) known.0, known.1)
+
+all_before : {A : Type 0} (p : A → Bool) (xs : List A) → length xs ≤ position_or_len p xs → (before p xs ≡ xs) × (from p xs ≡ [])
+all_before p [] h = (refl, refl)
+all_before p (x ∷ xs) h = all_step (p x) x xs (before p xs) (from p xs) (position_or_len p xs) h (all_before p xs)
+
+pub uncut : {A : Type 0} (p : A → Bool) (xs : List A) → None ≡ position p xs → (before p xs ≡ xs) × (from p xs ≡ [])
+uncut p xs e = all_before p xs (let g = chosen_none (ltb (position_or_len p xs) (length xs)) (position_or_len p xs) (sym e) in grind (arith, g))
+
+head_step : {A : Type 0} (p : A → Bool) (b : Bool) (x : A) (xs rest : List A) (y : A) (ys : List A) → p x ≡ b → (rest ≡ y ∷ ys → p y ≡ true) → cond b (x ∷ xs) rest ≡ y ∷ ys → p y ≡ true
+head_step {A} p true x xs rest y ys e h k = let same : x ≡ y = cc in subst (λ (z : A). p z ≡ true) same e
+head_step p false x xs rest y ys e h k = h k
+
+-- what stands first from there on passes
+pub from_head : {A : Type 0} (p : A → Bool) (xs : List A) (y : A) (ys : List A) → from p xs ≡ y ∷ ys → p y ≡ true
+from_head p [] y ys e = absurd cc
+from_head p (x ∷ xs) y ys e = head_step p (p x) x xs (from p xs) y ys refl (from_head p xs y ys) e
+
+-- what is left behind a place
+pub rest_is : (xs : List ℕ) (i : ℕ) → take (length xs - i) (drop i xs) ≡ drop i xs
+rest_is xs i = take_all (length xs - i) (drop i xs) (omega (arith, length-drop i xs))
+
+-- Lines.
+
+abbrev pub is_feed : ℕ → Bool
+is_feed byte = eqb byte 10
+
+from_tail : (b : Bool) (x : ℕ) (xs rest : List ℕ) → cond b (x ∷ xs) rest ≡ [] → rest ≡ []
+from_tail true x xs rest e = absurd cc
+from_tail false x xs rest e = e
+
+from_first : (b : Bool) (x : ℕ) (xs rest : List ℕ) → cond b (x ∷ xs) rest ≡ [] → b ≡ false
+from_first true x xs rest e = absurd cc
+from_first false x xs rest e = refl
+
+last_step : (feed ret start : Bool) (byte : ℕ) (bytes rest : List ℕ) (lines : List (List ℕ)) (front : List ℕ) → cond feed (byte ∷ bytes) rest ≡ [] → start ≡ false
+    → onto_line byte lines ≡ (byte ∷ front) ∷ [] → cond feed ([] ∷ lines) (cond (ret && start) lines (onto_line byte lines)) ≡ cond feed [] (byte ∷ front) ∷ []
+last_step true ret start byte bytes rest lines front e s h = absurd cc
+last_step false true true byte bytes rest lines front e s h = absurd cc
+last_step false true false byte bytes rest lines front e s h = h
+last_step false false start byte bytes rest lines front e s h = h
+
+-- a text without a line feed is one line
+pub one_line : (text : List ℕ) → text ≢ [] → from is_feed text ≡ [] → lines_of text ≡ before is_feed text ∷ []
+one_line [] h e = absurd (h refl)
+one_line (byte ∷ []) h e = last_step (eqb byte 10) (eqb byte 13) false byte [] [] [] [] e refl refl
+one_line (byte ∷ next ∷ more) h e =
+    let tail = from_tail (eqb byte 10) byte (next ∷ more) (from is_feed (next ∷ more)) e in
+    let start = from_first (eqb next 10) next more (from is_feed more) tail in
+    let known = one_line (next ∷ more) (λ k. absurd cc) tail in
+    last_step (eqb byte 10) (eqb byte 13) (eqb next 10) byte (next ∷ more) (from is_feed (next ∷ more)) (lines_of (next ∷ more)) (before is_feed (next ∷ more)) e start (ap (onto_line byte) known)
+
+ret_step : (ret start : Bool) (byte next : ℕ) (front : List ℕ) (lines after : List (List ℕ)) → eqb byte 13 ≡ ret → lines ≡ cut_line (cond start [] (next ∷ front)) ∷ after
+    → cond (ret && start) lines (onto_line byte lines) ≡ cut_line (byte ∷ cond start [] (next ∷ front)) ∷ after
+ret_step true true byte next front lines after e h = rw e h
+ret_step true false byte next front lines after e h = rw h refl
+ret_step false true byte next front lines after e h = rw (e, h) refl
+ret_step false false byte next front lines after e h = rw h refl
+
+feed_step : (feed : Bool) (byte f : ℕ) (bytes rest tail front : List ℕ) (inner : List (List ℕ)) → cond feed (byte ∷ bytes) tail ≡ f ∷ rest
+    → (tail ≡ f ∷ rest → inner ≡ cut_line (byte ∷ front) ∷ lines_of rest)
+    → cond feed ([] ∷ lines_of bytes) inner ≡ cut_line (cond feed [] (byte ∷ front)) ∷ lines_of rest
+feed_step true byte f bytes rest tail front inner e h = let same : bytes ≡ rest = cc in rw same refl
+feed_step false byte f bytes rest tail front inner e h = h e
+
+-- up to the first line feed stands the first line
+pub first_line : (text : List ℕ) (f : ℕ) (rest : List ℕ) → from is_feed text ≡ f ∷ rest → lines_of text ≡ cut_line (before is_feed text) ∷ lines_of rest
+first_line [] f rest e = absurd cc
+first_line (byte ∷ []) f rest e =
+    feed_step (eqb byte 10) byte f [] rest [] [] (cond (eqb byte 13 && false) [] ((byte ∷ []) ∷ [])) e (λ k. absurd cc)
+first_line (byte ∷ next ∷ more) f rest e =
+    feed_step (eqb byte 10) byte f (next ∷ more) rest (from is_feed (next ∷ more)) (before is_feed (next ∷ more)) (cond (eqb byte 13 && eqb next 10) (lines_of (next ∷ more)) (onto_line byte (lines_of (next ∷ more)))) e
+    (λ k. ret_step (eqb byte 13) (eqb next 10) byte next (before is_feed more) (lines_of (next ∷ more)) (lines_of rest) refl (first_line (next ∷ more) f rest k))
+
+pub next_from : (xs : List ℕ) (i : ℕ) → i < length xs → drop i xs ≡ get_or xs i 0 ∷ drop (i + 1) xs
+next_from xs i h = rw (add-one, drop-cons xs i 0) refl
+
+cut_more : (byte last : ℕ) (front : List ℕ) → cut_line (byte ∷ front ++ (last ∷ [])) ≡ byte ∷ cut_line (front ++ (last ∷ []))
+cut_more byte last [] = refl
+cut_more byte last (next ∷ front) = refl
+
+under_cond : (b : Bool) (byte : ℕ) (x y : List ℕ) → byte ∷ cond b x y ≡ cond b (byte ∷ x) (byte ∷ y)
+under_cond true byte x y = refl
+under_cond false byte x y = refl
+
+-- a carriage return at the end is cut off, and any other byte stays
+pub cut_last : (front : List ℕ) (last : ℕ) → cut_line (front ++ (last ∷ [])) ≡ cond (eqb last 13) front (front ++ (last ∷ []))
+cut_last [] last = refl
+cut_last (byte ∷ front) last = cut_more byte last front ∙ ap (λ (l : List ℕ). byte ∷ l) (cut_last front last) ∙ under_cond (eqb last 13) byte front (front ++ (last ∷ []))
+
+pub text_cut : (text line : List ℕ) (i : ℕ) → Some i ≡ position is_feed text → line ≡ cut_line (take i text) → lines_of text ≡ line ∷ lines_of (take (length text - (i + 1)) (drop (i + 1) text))
+text_cut text line i e h =
+    let cut = cut_at is_feed text i e in
+    let within = cut.within in
+    let whole = first_line text (get_or text i 0) (drop (i + 1) text) (sym cut.back ∙ next_from text i within) in
+    rw (h, cut.front, rest_is text (i + 1)) whole
+
+pub text_whole : (text : List ℕ) → (length text == 0) ≡ false → None ≡ position is_feed text → lines_of text ≡ text ∷ []
+text_whole [] h e = absurd cc
+text_whole (byte ∷ bytes) h e =
+    let none = uncut is_feed (byte ∷ bytes) e in
+    one_line (byte ∷ bytes) (λ k. absurd cc) none.1 ∙ ap (λ (line : List ℕ). line ∷ []) none.0
+
+pub return_cut : (line front : List ℕ) (last : ℕ) → line ≡ front ++ (last ∷ []) → last ≡ 13 → front ≡ cut_line line
+return_cut line front last e h = rw (e, h, cut_last front 13) refl
+
+pub return_kept : (line front : List ℕ) (last : ℕ) → line ≡ front ++ (last ∷ []) → eqb last 13 ≡ false → line ≡ cut_line line
+return_kept line front last e h = rw e (sym (rw (cut_last front last, h) refl))
+
+-- Words.
+
+blanks_step : (b : Bool) (byte : ℕ) (bytes rest : List ℕ) → is_blank byte ≡ b → words_of bytes ≡ words_of rest
+    → cond b (words_of bytes) (before_bytes byte bytes (words_of bytes)) ≡ words_of (cond (not b) (byte ∷ bytes) rest)
+blanks_step true byte bytes rest e h = h
+blanks_step false byte bytes rest e h = rw e refl
+
+pub skip_blanks : (line : List ℕ) → words_of line ≡ words_of (from (λ byte. not (is_blank byte)) line)
+skip_blanks [] = refl
+skip_blanks (byte ∷ bytes) = blanks_step (is_blank byte) byte bytes (from (λ byte. not (is_blank byte)) bytes) refl (skip_blanks bytes)
+
+word_step : (b : Bool) (byte next : ℕ) (more front rest : List ℕ) (words : List (List ℕ)) → (b ≡ false → words ≡ (next ∷ front) ∷ words_of rest) → words_of (next ∷ more) ≡ words
+    → cond b ((byte ∷ []) ∷ words) (onto_word byte words) ≡ (byte ∷ cond b [] (next ∷ front)) ∷ words_of (cond b (next ∷ more) rest)
+word_step true byte next more front rest words h e = ap (λ (ws : List (List ℕ)). (byte ∷ []) ∷ ws) (sym e)
+word_step false byte next more front rest words h e = rw (h refl) refl
+
+-- up to the first blank stands the first word
+pub first_word : (byte : ℕ) (bytes : List ℕ) → is_blank byte ≡ false → words_of (byte ∷ bytes) ≡ (byte ∷ before is_blank bytes) ∷ words_of (from is_blank bytes)
+first_word byte [] h = rw h refl
+first_word byte (next ∷ more) h = rw h (word_step (is_blank next) byte next more (before is_blank more) (from is_blank more) (words_of (next ∷ more)) (first_word next more) refl)
+
+pub no_word : (line : List ℕ) → None ≡ position (λ byte. not (is_blank byte)) line → words_of line ≡ []
+no_word line e = let none = uncut (λ byte. not (is_blank byte)) line e in skip_blanks line ∙ ap words_of none.1
+
+not_true : (b : Bool) → not b ≡ true → b ≡ false
+not_true true e = absurd cc
+not_true false e = refl
+
+-- bytes that begin with no blank
+known_word : (words : List ℕ) → ((byte : ℕ) (bytes : List ℕ) → words ≡ byte ∷ bytes → not (is_blank byte) ≡ true) → 0 < length words → words_of words ≡ before is_blank words ∷ words_of (from is_blank words)
+known_word [] h k = absurd (omega arith)
+known_word (byte ∷ bytes) h k = let dark : is_blank byte ≡ false = not_true (is_blank byte) (h byte bytes refl) in rw (first_word byte bytes dark, dark) refl
+
+words_at : (line : List ℕ) (i : ℕ) → Some i ≡ position (λ byte. not (is_blank byte)) line → let words = drop i line in words_of line ≡ before is_blank words ∷ words_of (from is_blank words)
+words_at line i e =
+    let cut = cut_at (λ byte. not (is_blank byte)) line i e in
+    skip_blanks line ∙ ap words_of (sym cut.back) ∙ known_word (drop i line) (λ byte bytes k. from_head (λ b. not (is_blank b)) line byte bytes (sym cut.back ∙ k)) (let inside = cut.within in omega (arith, length-drop i line))
+
+pub word_and_rest : (line words : List ℕ) (i j : ℕ) → words ≡ drop i line → Some i ≡ position (λ byte. not (is_blank byte)) line → Some j ≡ position is_blank words → words_of line ≡ take j words ∷ words_of (take (length words - j) (drop j words))
+word_and_rest line words i j same e f =
+    let cut = cut_at is_blank words j f in
+    rw (rest_is words j, cut.front, cut.back, same) (words_at line i e)
+
+pub word_alone : (line words : List ℕ) (i : ℕ) → words ≡ drop i line → Some i ≡ position (λ byte. not (is_blank byte)) line → None ≡ position is_blank words → words_of line ≡ words ∷ []
+word_alone line words i same e f =
+    let none = uncut is_blank words f in
+    let whole : words_of line ≡ before is_blank words ∷ words_of (from is_blank words) = rw same (words_at line i e) in
+    whole ∙ rw (none.0, none.1) refl
+
+-- Numbers.
+
+unless_digit : (bound : ℕ) (b : Bool) (read : Option ℕ) → fitting bound read ≡ None → fitting bound (cond b read None) ≡ None
+unless_digit bound true read h = h
+unless_digit bound false read h = refl
+
+-- digits only make a number larger
+too_large : (bound n : ℕ) (bytes : List ℕ) → bound ≤ n → fitting bound (number_from n bytes) ≡ None
+too_large bound n [] h = rw (le-ltb n bound h) refl
+too_large bound n (byte ∷ bytes) h = unless_digit bound (is_ascii_digit byte) (number_from (n * 10 + (byte - 48)) bytes) (too_large bound (n * 10 + (byte - 48)) bytes (omega (arith, h)))
+
+-- the number with one digit more is too large
+pub digit_too_large : (bound n i : ℕ) (word : List ℕ) (read : Option ℕ) → i < length word → bound ≤ n * 10 + (get_or word i 0 - 48) → fitting bound (number_from n (drop i word)) ≡ read → read ≡ None
+digit_too_large bound n i word read within h e =
+    let next : drop i word ≡ get_or word i 0 ∷ drop (i + 1) word = rw (add-one, drop-cons word i 0) refl in
+    let byte = get_or word i 0 in
+    sym e ∙ rw next (unless_digit bound (is_ascii_digit byte) (number_from (n * 10 + (byte - 48)) (drop (i + 1) word)) (too_large bound (n * 10 + (byte - 48)) (drop (i + 1) word) h))
+
+-- all digits are read
+pub digits_end : (bound n i : ℕ) (word : List ℕ) (read : Option ℕ) → n < bound → length word ≤ i → fitting bound (number_from n (drop i word)) ≡ read → Some n ≡ read
+digits_end bound n i word read small past e = sym (rw (drop_all i word past, lt-ltb n bound small) refl) ∙ e

@@ -1,0 +1,9 @@
+use Rattle.text_trace.specs.Names.{string_bytes, Event, StandsAt}
+use Rattle.text_trace.proofs.Names.{◌≡◌, ◌≤◌, List}
+use Rattle.text_trace.specs.Cells.{holders}
+use Rattle.text_trace.proofs.cells.print_holders.Given as goal
+
+abbrev pub invariant-loop-party : goal.invariant-loop-party
+invariant-loop-party g l =
+    (l.party ≤ l.parties) × ((past : List (Event g.row.T.Denot)) → StandsAt g.T.AtomicInteger.arithmetic l.object l.parties past l.machine →
+    string_bytes l.text ≡ holders g.T.AtomicInteger.arithmetic l.object past l.party)

@@ -1,0 +1,8 @@
+use Rattle.text_trace.specs.Names.{string_bytes}
+use Rattle.text_trace.proofs.Names.{◌≡◌, ◌++◌, take}
+use Rattle.text_trace.specs.Rows.{entries}
+use Rattle.text_trace.specs.Table.{row_lines}
+use Rattle.text_trace.proofs.table.print_rows.Given as goal
+
+abbrev pub invariant-loop-row : goal.invariant-loop-row
+invariant-loop-row g l = string_bytes l.out ≡ string_bytes l.initial.out ++ row_lines l.widths (entries (take l.row-index l.rows))

@@ -1,5 +1,0 @@
-use Rattle.running_mutex.specs.MutexShown.{HasStayed}
-use Rattle.two_threads.proofs.add_often.Given as goal
-
-abbrev pub invariant-loop : goal.invariant-loop
-invariant-loop g l = HasStayed l.fn.pass l.pass
