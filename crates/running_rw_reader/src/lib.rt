@@ -12,6 +12,7 @@ ghost use Rattle.running_rw_reader.specs.RwReaderSteps.{HoldsAreOfARun, NoHoldBe
 
 mod deeds;
 mod reading;
+mod shares;
 mod steps;
 mod writing;
 

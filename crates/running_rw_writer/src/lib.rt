@@ -14,6 +14,7 @@ ghost use Rattle.running_rw_writer.specs.RwWriterSteps.{GrantsAreOfARun, NoHoldB
 mod deeds;
 mod pass;
 mod reading;
+mod shares;
 mod steps;
 mod writing;
 

@@ -1,6 +1,6 @@
 use draw_text::picture::draw_text;
 use draw_text::run::run;
-use draw_text::story::{Step, Story, play};
+use draw_text::story::{Story, StoryStep, play};
 use std::alloc::{AllocError, Global};
 use std::str;
 use std::test::Fail;
@@ -10,7 +10,7 @@ use text_lines::fault::{LineFault, TextFault};
 const ABORT: &str = "mutex 2\n1 try_lock\n1 run\n2 lock\n2 run\n2 abort\n2 run\n";
 
 /// Writes a step of a story: its line, where it is the first of one, and how many equal steps it stands for.
-fn push_step(out: &mut String, step: &Step<u64>) -> Result<(), AllocError> {
+fn push_step(out: &mut String, step: &StoryStep<u64>) -> Result<(), AllocError> {
     if let Some(line) = &step.line {
         let number = line.number;
         let words = line.words.as_str();
