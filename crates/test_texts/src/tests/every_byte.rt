@@ -1,13 +1,10 @@
 //! Each program reads a text of each object from streams that fail at every byte, and from such as give and take little.
 
-mod programs;
-mod streams;
-
-use programs::{Draws, Ended, Explores, Plays, Program, Traces};
+use crate::tests::programs::{Draws, Ended, Explores, Plays, Program, Traces};
+use crate::tests::streams::{Fails, Gives, Takes};
 use std::alloc::{AllocError, Global};
 use std::io::{ErrorKind, Read};
 use std::test::Fail;
-use streams::{Fails, Gives, Takes};
 
 /// A text of each object.
 const TEXTS: [&str; 13] = [

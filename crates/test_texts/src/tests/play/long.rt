@@ -1,6 +1,6 @@
 //! Texts that are longer than any buffer, and outputs too.
-use super::streams::{Fails, Gives, Takes};
 use super::told;
+use crate::tests::streams::{Fails, Gives, Takes};
 use std::alloc::{AllocError, Global};
 use std::io::ErrorKind;
 use std::test::Fail;
