@@ -1,7 +1,14 @@
--- What the law of an object's steps says of one step, by its act and the call under way whose act it is.
-use Rattle.running_model.specs.Names.{◌≡◌, List, ◌∷◌, Option, Some, true, MatchBool, MatchOption, Call, Act, Then, Event, PendingCall, call_of, is_step}
-use Rattle.running_model.proofs.Names.{subst}
+-- What is known of one step.
+use Rattle.running_model.specs.Names.{◌≡◌, ℕ, List, ◌∷◌, Option, Some, true, MatchBool, MatchOption, Word, Call, Act, Intent, Then, Event, PendingCall, Sights, View, call_of, is_step, carried_out, value_told, view_of}
+use Rattle.running_model.proofs.Names.{◌≢◌, ◌==◌, Bool, false, refl, subst, sym, ap, ◌∙◌, some_same}
+use Rattle.std.proofs.lemmas.Bool.{eqb-true, eqb-false}
 use Rattle.model_events.specs.NextStep.{StepsAs}
+use Rattle.running_model.specs.Models.{Model}
+use Rattle.running_model.specs.Slots.{Parties}
+use Rattle.running_model.specs.Plays.{Coming, MayStep, act_at}
+use Rattle.running_model.specs.Passes.{Told}
+
+-- what the law of an object's steps says of it, by its act and the call under way whose act it is
 
 pub next_step : {V : Type 0} (Next : Call V → List (Event V) → Act V → Then V → Type 0) (past : List (Event V)) (e : Event V) (c : PendingCall V) (act : Act V) → e.act ≡ act → is_step act ≡ true → call_of e.party past ≡ Some c →
     StepsAs Next (e ∷ past) → Next c.call c.own act e.then
@@ -9,3 +16,26 @@ next_step {V} Next past e c act is step called steps =
     subst (λ (k : Option (PendingCall V)). MatchOption k ⊥ (λ d. Next d.call d.own act e.then)) called
     (subst (λ b. MatchBool b (MatchOption (call_of e.party past) ⊥ (λ d. Next d.call d.own act e.then)) (Unit {0})) step
     (subst (λ (a : Act V). MatchBool (is_step a) (MatchOption (call_of e.party past) ⊥ (λ d. Next d.call d.own a e.then)) (Unit {0})) is steps))
+
+-- A step that the table has, by what it is to do.
+module _ {V P : Type 0} (m : Model V P) (names : List Word) (coming : Coming V) (i : ℕ) (intent : Word → Intent V) (p : Parties V) (may : MayStep m names coming i intent p) (name : Word) (named : name ≡ may.name) (found : ℕ) where
+  -- what its act makes of what its pass saw and counts
+  pub told_so : {C : Type 0} (sees : Act V → Sights → Sights) (after : Act V → Call V → C → C) (v w : View C) → Told m sees after coming p found v w →
+      w ≡ view_of v.part (sees (carried_out (intent name) (λ _. found)) v.sights) (after (carried_out (intent name) (λ _. found)) may.call v.tally)
+  told_so {C} sees after v w told = told may.call may.place may.hold may.done may.comes
+      ∙ ap (λ (k : Intent V). view_of v.part (sees (carried_out k (λ _. found)) v.sights) (after (carried_out k (λ _. found)) may.call v.tally)) (may.intends ∙ sym (ap intent named))
+
+  -- what it found is what the word held
+  pub found_there : ((w : Word) (memory : Word → ℕ) → value_told (carried_out (intent w) memory) ≡ Some (memory w)) → (memory : Word → ℕ) →
+      act_at m may.place may.hold found ≡ carried_out (m.table.intent may.place may.hold) memory → found ≡ memory name
+  found_there tells memory so =
+      some_same _ _ (sym (tells may.name (λ _. found)) ∙ ap value_told (subst (λ (k : Intent V). carried_out k (λ _. found) ≡ carried_out k memory) may.intends so) ∙ tells may.name memory)
+      ∙ sym (ap memory named)
+
+-- it found 0, or not
+pub zero_or_not : (n : ℕ) → MatchBool (n == 0) (n ≡ 0) (n ≢ 0)
+zero_or_not n = by_test (n == 0) refl
+  where
+    by_test : (b : Bool) → (n == 0) ≡ b → MatchBool b (n ≡ 0) (n ≢ 0)
+    by_test true test = eqb-true n 0 test
+    by_test false test = eqb-false n 0 test

@@ -9,7 +9,7 @@ use Rattle.running_model.specs.Slots.{Slot, Free, Mine, Torn, both, all, slot_at
 use Rattle.running_model.specs.SlotLaws.{no_parties_add, slot_of_all}
 use Rattle.running_model.specs.Words.{AllHold, AreApart, IsStepOn, IsOnNoWord, effect}
 use Rattle.running_model.specs.Plays.{fresh_call, Coming, IsPlayed, act_at, Leads, Led, IsStepAt, MayStep, StoodAlone, Went, HasStepped, WentBy, StoodBeside, WentBeside, WentAlone, events_of}
-use Rattle.running_model.specs.Passes.{played, none_played, both_played, counted_in, PlaysAndCounts, GoesOnCounting, StaysCounting, GoesOnByActs, StaysOnNoWord, Stepped, SteppedByAct, Looked}
+use Rattle.running_model.specs.Passes.{played, none_played, both_played, counted_in, PlaysAndCounts, GoesOnCounting, StaysCounting, HasNeeds, GoesOnByActs, StaysOnNoWord, Stepped, SteppedByAct, Looked}
 use Rattle.running_model.proofs.Words.{hold_at, carried_here}
 use Rattle.running_model.proofs.Same.{same_coming}
 use Rattle.running_model.proofs.Ready.{AllMatch, ready, still, came, step_event, steps}
@@ -178,10 +178,11 @@ module _ {V P : Type 0} (m : Model V P) (names : List Word) where
     -- or what its act does, where the words are asked for nothing
     pub updates_by_act :
         ((n : ℕ) (past : List (Event V)) → IsPast m.arithmetic m.table n past → m.law past) → AreApart names → StaysOnNoWord follow → ((found : List ℕ) (homes : List (maybe.Option (Unit {0}))) (c : C) → agree found homes c) →
-        (sees : Act V → Sights → Sights) (after : Act V → Call V → C → C) → GoesOnByActs m add follow after → (coming : Coming V) (v : View (Played M Q V C)) (i : ℕ) (intent : Word → Intent V) (f shows : ℕ → ℕ) →
-        MayStep m names coming i intent v.tally.parties → ((w : Word) (n : ℕ) → effect (intent w) n ≡ f n) → ((w : Word) (n : ℕ) → carried_out (intent w) (λ _. n) ≡ carried_out (intent w) (λ _. shows n)) →
+        (sees : Act V → Sights → Sights) (after : Act V → Call V → C → C) (needs : Act V → C → Type 0) → GoesOnByActs m add follow after needs → (coming : Coming V) (v : View (Played M Q V C)) (i : ℕ) (intent : Word → Intent V) (f shows : ℕ → ℕ) →
+        MayStep m names coming i intent v.tally.parties → HasNeeds needs intent v.tally.counts →
+        ((w : Word) (n : ℕ) → effect (intent w) n ≡ f n) → ((w : Word) (n : ℕ) → carried_out (intent w) (λ _. n) ≡ carried_out (intent w) (λ _. shows n)) →
         Updates (none_played none) (both_played add) (PlaysAndCounts m names agree follow) v i f (λ found. SteppedByAct m add follow sees after coming v (shows found))
-    updates_by_act lawful apart quiet free sees after goes coming v i intent f shows may leaves so = record {
+    updates_by_act lawful apart quiet free sees after needs goes coming v i intent f shows may has leaves so = record {
       may = λ found homes rest r alone fits.
           let x : ℕ = get_or found i 0 in
           let Says : List (Event V) → Type 0 = λ past. follow past (add v.tally.counts rest.counts) in
@@ -193,7 +194,7 @@ module _ {V P : Type 0} (m : Model V P) (names : List Word) where
               played = made_run _ _ _ _ _ _ _ _ _ _ _ _ a;
               agrees = free _ _ _;
               follows = subst (λ (act : Act V). follow (a.latest ∷ a.past) (add (after act may.call v.tally.counts) rest.counts)) a.step.act
-                  (goes may.call may.place may.hold a.past a.latest (shows x) a.step v.tally.counts rest.counts a.says);
+                  (goes may.call may.place may.hold a.past a.latest (shows x) a.step v.tally.counts rest.counts (subst (λ (act : Act V). needs act v.tally.counts) (sym a.act_is) (has may.name (shows x))) a.says);
             },
             record {
               went = a.went;

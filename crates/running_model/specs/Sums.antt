@@ -1,5 +1,5 @@
 -- Counts that are a sum over the acts of a run.
-use Rattle.running_model.specs.Names.{◌≡◌, ℕ, ◌+◌, if◌then◌else◌, List, [], ◌∷◌, Option, None, Act, Event, HoldKind, PendingCall, call_of, hold_taken, Table, IsTally}
+use Rattle.running_model.specs.Names.{◌≡◌, ℕ, ◌+◌, if◌then◌else◌, List, [], ◌∷◌, Option, None, Act, Event, HoldKind, PendingCall, call_of, holds_of, hold_taken, is_release, with_hold, without, Table, IsTally}
 use Rattle.std.proofs.Common.{ap, sym, ◌∙◌, refl, arith}
 use Rattle.running_model.specs.Holding.{is_kind}
 use Rattle.running_model.specs.Words.{IsOnNoWord, on_no_word}
@@ -51,3 +51,8 @@ module _ {V P : Type 0} (t : Table V P) (kind : HoldKind) where
 
   pub next_grants : (past : List (Event V)) (e : Event V) (before after rest : ℕ) → after ≡ grants_by e.act (call_of e.party past) + before → before + rest ≡ grants_in past → after + rest ≡ grants_in (e ∷ past)
   next_grants = next_sum 0 (λ n m. n + m) grants_by 0 (λ _. 0) numbers_add_up
+
+-- acts on no word take no hold, and end none
+pub quiet_holds : {V P : Type 0} (t : Table V P) (past : List (Event V)) (e : Event V) → IsOnNoWord e.act → holds_of t (e ∷ past) ≡ holds_of t past
+quiet_holds t past e = on_no_word (λ act. (if is_release act then without e.party (holds_of t past) else with_hold e.party (hold_taken t act (call_of e.party past)) (holds_of t past)) ≡ holds_of t past)
+    (λ call. refl) (λ action. refl) (λ choice. refl) (λ wake. refl) refl (λ value. refl) e.act

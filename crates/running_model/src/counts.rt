@@ -32,6 +32,9 @@ pub trait CountsByActs<K, M: Script<K, P, V>, P, V>: Counts<K, V> {
 
     ghost after: { Act V → Call V → Self → Self };
 
+    // What an act needs of what its pass counts: one that ends a hold needs the hold.
+    ghost needs: { Act V → Self → Type 0 };
+
     // What the run says of the sum goes on with what each act counts.
-    ghost goes_on: { (key : K) → GoesOnByActs (M.model key) Self.Counts.add (Self.Counts.follow key) after };
+    ghost goes_on: { (key : K) → GoesOnByActs (M.model key) Self.Counts.add (Self.Counts.follow key) after needs };
 }

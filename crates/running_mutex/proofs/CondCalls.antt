@@ -1,11 +1,10 @@
 -- What a notify gives, and what a wait comes to.
-use Rattle.running_mutex.specs.Names.{Call, Answer, Bor, Shared, WaitAction, View, IsWhole, stale, part_of, sights_of, counts_of, wrote, Holds, holds, gave}
+use Rattle.running_mutex.specs.Names.{Call, Answer, Bor, Shared, WaitAction, View, IsWhole, stale, part_of, sights_of, counts_of, wrote, Holds, holds, granted, gave}
 use Rattle.running_mutex.proofs.Names.{◌≡◌, ℕ, ◌<◌, Bool, true, false, MatchBool, ◌⊎◌, inl, inr, ap, subst, ◌∙◌, arith}
 use Rattle.running_passes.specs.declared.part.Sights.{Sights}
 use Rattle.running_model.specs.Counts.{HasSeen, HasDone, HasGivenUp}
 use Rattle.running_mutex.specs.declared.waits.Waits.{Waits}
 use Rattle.running_mutex.specs.declared.condition_variable.CondPass.{CondPass}
-use Rattle.running_mutex.specs.MutexSteps.{granted}
 use Rattle.running_mutex.specs.MutexShown.{MutexPass, IsLocked, HasEntered, HasUnlocked}
 use Rattle.running_mutex.specs.CondRule.{WaitsPass, went_in, went_out, one_more}
 use Rattle.running_mutex.specs.CondShown.{waits_in, permits_in, HasPlayedCount, HasNotified, HasGiven, TakesNone, HasSlept, HasLeft, HasRegained}

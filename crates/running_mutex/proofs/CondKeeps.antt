@@ -1,17 +1,15 @@
 -- What a step makes of what a pass of the count saw and counts; and where no other pass is left and no wait of its own is there, the count is 0.
-use Rattle.running_mutex.specs.Names.{Word, Call, Intent, Coming, MayStep, Parties, View, looked, wrote}
-use Rattle.running_mutex.proofs.Names.{◌≡◌, ◌≢◌, ℕ, ◌+◌, ◌-◌, ◌%◌, ◌^◌, Bool, cond, [], ◌∷◌, sym, refl, ap, subst, ◌∙◌, arith, ne_eqb}
+use Rattle.running_mutex.specs.Names.{Word, Intent, Coming, MayStep, Parties, View, looked, wrote}
+use Rattle.running_mutex.proofs.Names.{◌≡◌, ◌≢◌, ℕ, ◌+◌, ◌-◌, ◌%◌, ◌^◌, Bool, cond, [], ◌∷◌, sym, refl, ap, ◌∙◌, arith, ne_eqb}
 use Rattle.std.specs.Prelude.{length, not}
-use Rattle.model_events.specs.declared.event.Act.{Act}
 use Rattle.model_events.specs.Past.{word_in}
-use Rattle.model_events.specs.Rows.{carried_out, value_told}
-use Rattle.model_events.proofs.Holds.{some_same, eqb_same}
+use Rattle.model_events.proofs.Holds.{eqb_same}
 use Rattle.model_condvar.specs.Waiters.{waiting_after}
 use Rattle.model_waiters.specs.Table.{waiters_table}
-use Rattle.running_passes.specs.Views.{view_of}
 use Rattle.running_model.specs.Passes.{Told}
 use Rattle.running_model.specs.Plays.{WentAlone}
 use Rattle.running_model.specs.Sees.{sights_after}
+use Rattle.running_model.proofs.Steps.{told_so, found_there}
 use Rattle.running_model.proofs.Words.{hold_at}
 use Rattle.running_mutex.specs.declared.waits.Waits.{Waits}
 use Rattle.running_mutex.specs.CondScript.{waiters_model}
@@ -19,21 +17,13 @@ use Rattle.running_mutex.specs.CondRule.{went_in, went_out, waits_after, AreWait
 
 -- what a step tells, by its act
 
-abbrev After : Act ℕ → Call ℕ → View Waits → View Waits
-After act call v = view_of v.part (sights_after act v.sights) (waits_after act call v.tally)
-
-told_so : (way : Coming ℕ) (p : Parties ℕ) (found : ℕ) (v w : View Waits) (intent : Word → Intent ℕ) (may : MayStep waiters_model (Word.Waiters ∷ []) way 0 intent p) →
-    Told waiters_model sights_after waits_after way p found v w → w ≡ After (carried_out (intent Word.Waiters) (λ _. found)) may.call v
-told_so way p found v w intent may told = told may.call may.place may.hold may.done may.comes
-    ∙ ap (λ (k : Intent ℕ). After (carried_out k (λ _. found)) may.call v) (may.intends ∙ sym (ap intent may.named))
-
 pub loads : (way : Coming ℕ) (p : Parties ℕ) (found : ℕ) (v w : View Waits) → MayStep waiters_model (Word.Waiters ∷ []) way 0 (λ k. Intent.Load k) p →
     Told waiters_model sights_after waits_after way p found v w → w ≡ looked v found
-loads way p found v w may told = told_so way p found v w (λ k. Intent.Load k) may told
+loads way p found v w may told = told_so _ _ _ _ (λ k. Intent.Load k) p may Word.Waiters may.named found sights_after waits_after v w told
 
 pub counts_in : (way : Coming ℕ) (p : Parties ℕ) (found : ℕ) (v w : View Waits) → MayStep waiters_model (Word.Waiters ∷ []) way 0 (λ k. Intent.Add k 1) p →
     Told waiters_model sights_after waits_after way p found v w → w ≡ wrote v (went_in v.tally)
-counts_in way p found v w may told = told_so way p found v w (λ k. Intent.Add k 1) may told
+counts_in way p found v w may told = told_so _ _ _ _ (λ k. Intent.Add k 1) p may Word.Waiters may.named found sights_after waits_after v w told
     ∙ ap (λ (b : Bool). wrote v (cond b (went_in v.tally) (cond (not b) (went_out v.tally) v.tally))) (eqb_same ((found + 1) % 2 ^ 64))
 
 other_way : (n : ℕ) → ((n + (2 ^ 64 - 1)) % 2 ^ 64) ≢ ((n + 1) % 2 ^ 64)
@@ -41,7 +31,7 @@ other_way n same = absurd (omega (arith, same))
 
 pub counts_out : (way : Coming ℕ) (p : Parties ℕ) (found : ℕ) (v w : View Waits) → MayStep waiters_model (Word.Waiters ∷ []) way 0 (λ k. Intent.Subtract k 1) p →
     Told waiters_model sights_after waits_after way p found v w → w ≡ wrote v (went_out v.tally)
-counts_out way p found v w may told = told_so way p found v w (λ k. Intent.Subtract k 1) may told
+counts_out way p found v w may told = told_so _ _ _ _ (λ k. Intent.Subtract k 1) p may Word.Waiters may.named found sights_after waits_after v w told
     ∙ ap (λ (b : Bool). wrote v (cond b (went_in v.tally) (cond (not b) (went_out v.tally) v.tally))) (ne_eqb ((found + (2 ^ 64 - 1)) % 2 ^ 64) ((found + 1) % 2 ^ 64) (other_way found))
 
 -- Where no other pass is left, and no wait of its own is there, the count is 0.
@@ -53,9 +43,7 @@ pub none_there : (t : Waits) (way : Coming ℕ) (p : Parties ℕ) (found : ℕ) 
     WentAlone waiters_model (λ past. AreWaitsIn past t) way p found → t.ended ≡ t.begun → found ≡ 0
 none_there t way p found may went out =
     let s = went may.call may.place may.hold may.done may.comes in
-    let act : carried_out (Intent.Load may.name) (λ _. found) ≡ carried_out (Intent.Load may.name) (word_in waiters_table s.past) =
-    subst (λ (k : Intent ℕ). carried_out k (λ _. found) ≡ carried_out k (word_in waiters_table s.past)) may.intends s.found_is in
-    let found_is : found ≡ word_in waiters_table s.past Word.Waiters = some_same _ _ (ap value_told act) ∙ sym (ap (word_in waiters_table s.past) may.named) in
+    let found_is = found_there _ _ _ _ (λ w. Intent.Load w) p may Word.Waiters may.named found (λ w memory. refl) (word_in waiters_table s.past) s.found_is in
     let law = s.law.law.waiters in
     none_left t.begun t.ended _ _ _ found s.says.begun s.says.ended out law.left (found_is ∙ law.counts)
 

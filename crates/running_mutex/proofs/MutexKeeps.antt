@@ -1,101 +1,88 @@
--- Each step of a mutex keeps its rule.
-use Rattle.running_mutex.specs.Names.{Word, Call, Then, HoldKind, Intent, MutexPlace, mutex_table, Parties, Coming, IsStepAt, mutex_model, mutex_lawful, View, sum_of, Updates, Holds, no_holds, both_holds, IsHeld, AreGrantsIn, MutexAgrees, none_played, both_played, core_played, played_add_up, GoesOnCounting}
-use Rattle.running_mutex.proofs.Names.{◌≡◌, ℕ, ◌≤◌, ◌==◌, eqb, Bool, true, false, cond, List, [], ◌∷◌, Option, Some, set, refl, ap, sym, subst, ◌∙◌, arith, length-set, get_or-set_same, by_exchange}
+-- What a step makes of what a pass saw and counts, and what the run says of it.
+use Rattle.std.proofs.lemmas.Bool.{eqb-true, eqb-false}
+use Rattle.std.proofs.lemmas.Bool.Decides.{nat_tests}
 use Rattle.model_events.specs.declared.event.Act.{Act}
 use Rattle.model_events.specs.declared.event.Event.{Event}
+use Rattle.model_events.specs.Integers.{u64_arithmetic}
+use Rattle.model_events.specs.Past.{PendingCall, call_of, holds_of, hold_of, word_in}
 use Rattle.model_events.specs.Rows.{carried_out}
-use Rattle.model_events.specs.Past.{PendingCall, call_of}
-use Rattle.model_events.specs.NextStep.{StepsAs}
-use Rattle.model_mutex.specs.Law.{MutexStep, IsUnlockStep, acts_of}
-use Rattle.running_model.specs.Sums.{grants_by, next_grants}
+use Rattle.model_events.specs.Runs.{IsPast}
+use Rattle.model_events.proofs.Parties.{at_place}
+use Rattle.model_mutex.proofs.Laws.{AtMutex, mutex_kept}
+use Rattle.running_mutex.specs.Names.{MatchBool, Word, Call, HoldKind, Intent, MutexPlace, mutex_table, mutex_intent, mutex_model, length, Coming, IsStepAt, MayStep, WentAlone, IsSamePass, counts_of, parties_of, counted, view_of, missed, sum_of, no_holds, both_holds, holds_after, AreHoldsIn, none_played, both_played, core_played, played_add_up, IsShare, Told, act_at, sights_after}
+use Rattle.running_mutex.proofs.Names.{◌≡◌, ℕ, ◌≤◌, ◌==◌, Bool, true, false, cond, List, [], ◌∷◌, Option, Some, refl, ap, sym, subst, ◌∙◌, arith}
+use Rattle.running_model.specs.Sums.{grants_by}
 use Rattle.running_model.proofs.OfARun.{of_a_run}
-use Rattle.running_model.proofs.Steps.{next_step}
+use Rattle.running_model.proofs.Steps.{told_so, found_there}
+use Rattle.running_model.proofs.Words.{hold_at}
 use mathlib.Core.Logic.{dite}
 use native.Mathlib.Decide.{ℕ_discrete}
-use prog.Atomic.{either}
 use Rattle.running_passes.proofs.Sums.{sum_of_two}
-use Rattle.running_mutex.specs.MutexSteps.{granted, released, locked, unlocked, saw_locked, Exchanged, Stored, PlayedMutex, GrantsAreOfARun, OneHolder}
-use Rattle.running_tallies.specs.MutexTally.{holds_add_up, at_zero, beside_zero}
+use Rattle.running_tallies.specs.MutexTally.{holds_add_up, word_is_held}
+use Rattle.running_mutex.specs.MutexShown.{MutexPass, holds_of as holds_of_pass, HasLocked, HasSeenLocked, HasUnlocked}
+use Rattle.running_mutex.specs.MutexSteps.{PlayedMutex, GrantsAreOfARun, OneHolder}
 
--- the word is written, and is the number of holds again
-held_again : (words : List ℕ) (n : ℕ) (t u : Holds) → IsHeld words t → n ≡ u.holds → n ≤ 1 → IsHeld (set words 0 n) u
-held_again words n t u is agrees one = record { one_word = length-set words 0 n ∙ is.one_word; word = get_or-set_same words 0 n 0 (omega (arith, is.one_word)) ∙ agrees; one = omega arith }
+-- An exchange of 0 for 1.
+module _ (way : Coming ℕ) (put found : ℕ) (p : MutexPass) (may : MayStep mutex_model (Word.State ∷ []) way 0 (λ k. Intent.Exchange k 0 put) (parties_of p)) where
+  -- what it found is how many holds stood
+  held_there : (parties : ℕ) (past : List (Event ℕ)) → IsPast u64_arithmetic mutex_table parties past → act_at mutex_model may.place may.hold found ≡ carried_out (mutex_intent Word.State may.place) (word_in mutex_table past) →
+      (found ≡ length (holds_of {T = ℕ} mutex_table past)) × (found ≤ 1)
+  held_there parties past run so =
+      let is = found_there _ _ _ _ (λ k. Intent.Exchange k 0 put) (parties_of p) may Word.State may.named found (λ w memory. refl) (word_in mutex_table past) so in
+      let held = word_is_held parties past run in (is ∙ held.0, omega (arith, is, held.1))
 
-pub exchanges : (v : View Holds) (new : ℕ) → new ≡ 1 → Updates no_holds both_holds MutexAgrees v 0 (λ x. either (eqb x 0) new x) (Exchanged v)
-exchanges v new is_1 = by_exchange no_holds both_holds MutexAgrees v 0 0 new (Exchanged v)
-    (λ words homes rest is alone fits hit. let word = is.word in (
-      locked v,
-      refl,
-      held_again words new (both_holds v.tally rest) (both_holds (granted v.tally) rest) is (omega arith) (omega arith),
-      record { free = λ _. (omega arith, refl); taken = λ miss. absurd (miss hit); alone = λ _ _. hit },
-    ))
-    (λ words homes rest is alone fits miss. let word = is.word in (
-      saw_locked v,
-      refl,
-      is,
-      record { free = λ hit. absurd (miss hit); taken = λ _. refl; alone = λ whole off. let none = ap (λ (t : Holds). t.holds) (alone whole) in absurd (miss (omega arith)) },
-    ))
+  -- So where it found 0, the pass's own hold was off.
+  pub tries : (q : MutexPass) → IsSamePass p q → IsShare mutex_model both_holds AreHoldsIn way (parties_of p) found (counts_of p) → Told mutex_model sights_after holds_after way (parties_of p) found (counted p) (counted q) →
+      MatchBool (found == 0) (HasLocked p q) (HasSeenLocked p q)
+  tries q same share told =
+      let s = share.beside may.call may.place may.hold may.done may.comes in
+      let held = held_there s.parties s.past s.run s.found_is in
+      let all = s.says.holds in
+      by_test (found == 0) refl (λ free. omega (arith, all, held.0, free)) held.1
+      (told_so _ _ _ _ (λ k. Intent.Exchange k 0 put) (parties_of p) may Word.State may.named found sights_after holds_after (counted p) (counted q) told)
+    where
+      by_test : (b : Bool) → (found == 0) ≡ b → (found ≡ 0 → holds_of_pass p ≡ 0) → found ≤ 1 →
+          counted q ≡ view_of (counted p).part (sights_after {V = ℕ} (Act.Exchange Word.State 0 put found b) (counted p).sights) (holds_after (Act.Exchange Word.State 0 put found b) may.call (counts_of p)) → MatchBool b (HasLocked p q) (HasSeenLocked p q)
+      by_test true test off one is = (same, off (eqb-true found 0 test), is)
+      by_test false test off one is = let other = eqb-false found 0 test in let is_1 : found ≡ 1 = omega (arith, one, other) in (same, is ∙ ap (missed (counted p) 0) is_1)
 
-pub stores : (v : View Holds) → v.tally.holds ≡ 1 → Updates no_holds both_holds MutexAgrees v 0 (λ _. 0) (λ _. Stored v)
-stores v on = record {
-  may = λ words homes rest is alone fits. let word = is.word in let one = is.one in (
-    unlocked v,
-    refl,
-    held_again words 0 (both_holds v.tally rest) (both_holds (released v.tally) rest) is (omega arith) (omega arith),
-    record { off = refl },
-  );
-}
+  -- where no other pass is left, only its own can be on
+  pub tries_alone : WentAlone mutex_model (λ past. AreHoldsIn past (counts_of p)) way (parties_of p) found → holds_of_pass p ≡ 0 → (found == 0) ≡ true
+  tries_alone went off =
+      let s = went may.call may.place may.hold may.done may.comes in
+      let held = held_there s.parties s.past s.run s.found_is in
+      let all = s.says.holds in
+      subst (λ (n : ℕ). (n == 0) ≡ true) (let zero : 0 ≡ found = omega (arith, all, held.0, off) in zero) refl
 
--- The grants are those of the run.
+-- a store of 0, by the pass whose hold is on
+pub stores : (way : Coming ℕ) (p q : MutexPass) → MayStep mutex_model (Word.State ∷ []) way 0 (λ k. Intent.Store k 0) (parties_of p) → IsSamePass p q → holds_of_pass p ≡ 1 →
+    Told mutex_model sights_after holds_after way (parties_of p) 0 (counted p) (counted q) → HasUnlocked p q
+stores way p q may same on told =
+    (same, on, told_so _ _ _ _ (λ k. Intent.Store k 0) (parties_of p) may Word.State may.named 0 sights_after holds_after (counted p) (counted q) told)
 
--- in a run only a locking call exchanges, and it takes the hold by an exchange that is done
-granted_by : (past : List (Event ℕ)) (e : Event ℕ) (c : PendingCall ℕ) (name : Word) (new found : ℕ) (done : Bool) → Word.State ≡ name → call_of e.party past ≡ Some c → e.act ≡ Act.Exchange name 0 new found done →
-    StepsAs MutexStep (e ∷ past) → grants_by mutex_table HoldKind.Write e.act (call_of e.party past) ≡ cond done 1 0
-granted_by past e c name new found false named called act steps = subst (λ (a : Act ℕ). grants_by mutex_table HoldKind.Write a (call_of e.party past) ≡ 0) (sym act)
-    (subst (λ w. grants_by mutex_table HoldKind.Write (Act.Exchange w 0 new found false) (call_of e.party past) ≡ 0) named refl)
-granted_by past e c name new found true named called act steps =
-    let step : MutexStep c.call c.own (Act.Exchange Word.State 0 new found true) e.then =
-    subst (λ w. MutexStep c.call c.own (Act.Exchange w 0 new found true) e.then) (sym named) (next_step MutexStep past e c (Act.Exchange name 0 new found true) act refl called steps) in
-    subst (λ (a : Act ℕ). grants_by mutex_table HoldKind.Write a (call_of e.party past) ≡ 1) (sym act)
-    (subst (λ w. grants_by mutex_table HoldKind.Write (Act.Exchange w 0 new found true) (call_of e.party past) ≡ 1) named
-    (subst (λ (k : Option (PendingCall ℕ)). grants_by mutex_table HoldKind.Write (Act.Exchange Word.State 0 new found true) k ≡ 1) (sym called) (by_call c.call c.own e.then step)))
-  where
-    unlocks : (own : List (Act ℕ)) (outcome : Then ℕ) → IsUnlockStep own (Act.Exchange Word.State 0 new found true) outcome → ⊥
-    unlocks [] outcome step = absurd cc
-    unlocks (a ∷ own) outcome step = absurd cc
+-- an exchange of 0 for 1 grants where it found 0
+grants_at : (place : MutexPlace) (c : PendingCall ℕ) (had : Option HoldKind) (name : Word) (new found : ℕ) (act : Act ℕ) → AtMutex place c had → act ≡ carried_out (mutex_intent Word.State place) (λ _. found) →
+    act ≡ carried_out (Intent.Exchange name 0 new) (λ _. found) → grants_by mutex_table HoldKind.Write act (Some c) ≡ cond (found == 0) 1 0
+grants_at place c had name new found act h1 h2 h3 = grind (arith, nat_tests, eqb-true, eqb-false)
 
-    by_call : (call : Call ℕ) (own : List (Event ℕ)) (outcome : Then ℕ) → MutexStep call own (Act.Exchange Word.State 0 new found true) outcome →
-        grants_by mutex_table HoldKind.Write (Act.Exchange Word.State 0 new found true) (Some (record { call = call; own = own })) ≡ 1
-    by_call Call.Lock own outcome step = refl
-    by_call Call.TryLock own outcome step = refl
-    by_call Call.Unlock own outcome step = absurd (unlocks (acts_of own) outcome step)
-    by_call other own outcome step = absurd step
-
--- so by its step, whichever call it is of
 pub exchange_grants : (call : Call ℕ) (place : MutexPlace) (hold : Option HoldKind) (past : List (Event ℕ)) (e : Event ℕ) (name : Word) (new found : ℕ) → IsStepAt mutex_model call place hold found past e → Word.State ≡ name →
     e.act ≡ carried_out (Intent.Exchange name 0 new) (λ _. found) → grants_by mutex_table HoldKind.Write e.act (call_of e.party past) ≡ cond (found == 0) 1 0
-exchange_grants call place hold past e name new found step named act =
-    granted_by past e step.pending name new found (found == 0) named step.under_way act (mutex_lawful step.parties (e ∷ past) step.run).law.steps
+exchange_grants call place hold past e name new found step named act = subst (λ (k : Option (PendingCall ℕ)). grants_by mutex_table HoldKind.Write e.act k ≡ cond (found == 0) 1 0) (sym step.under_way)
+    (grants_at place step.pending (hold_of mutex_table e.party past) name new found e.act (at_place u64_arithmetic mutex_table step.parties AtMutex mutex_kept past step.run.1 e.party step.pending place step.under_way step.stage) step.act act)
 
-pub exchange_counts : (way : Coming ℕ) (p : Parties ℕ) (v : View Holds) (new : ℕ) →
-    GoesOnCounting mutex_model (Word.State ∷ []) both_holds MutexAgrees (AreGrantsIn mutex_table) way 0 (λ w. Intent.Exchange w 0 new) p v.tally (Exchanged v)
-exchange_counts way p v new call place hold done comes past e found step name named act rest w told still is =
-    let grants = exchange_grants call place hold past e name new found step named act in dite (ℕ_discrete found 0)
-    (λ hit. let now = ap (λ (u : View Holds). u.tally.grants) (told.free hit).1 in
-    next_grants mutex_table HoldKind.Write past e v.tally.grants w.tally.grants rest.grants (now ∙ omega (arith, at_zero found _ grants hit)) is)
-    (λ miss. let now = ap (λ (u : View Holds). u.tally.grants) (told.taken miss) in
-    next_grants mutex_table HoldKind.Write past e v.tally.grants w.tally.grants rest.grants (now ∙ omega (arith, beside_zero found _ grants miss)) is)
-
-pub store_counts : (way : Coming ℕ) (p : Parties ℕ) (v : View Holds) → GoesOnCounting mutex_model (Word.State ∷ []) both_holds MutexAgrees (AreGrantsIn mutex_table) way 0 (λ w. Intent.Store w 0) p v.tally (λ _. Stored v)
-store_counts way p v call place hold done comes past e found step name named act rest w told still is =
-    let none : grants_by mutex_table HoldKind.Write e.act (call_of e.party past) ≡ 0 = ap (λ (a : Act ℕ). grants_by mutex_table HoldKind.Write a (call_of e.party past)) act in
-    next_grants mutex_table HoldKind.Write past e v.tally.grants w.tally.grants rest.grants (omega (arith, ap (λ (u : View Holds). u.tally.grants) told.off, none)) is
+-- Whenever the rule holds.
 
 pub grants_are_of_a_run : GrantsAreOfARun
-grants_are_of_a_run s r = of_a_run mutex_model (Word.State ∷ []) MutexAgrees (AreGrantsIn mutex_table) s.words s.homes (sum_of (none_played no_holds) (both_played both_holds) s.views) r.agree
+grants_are_of_a_run s r =
+    let held = word_is_held r.agree.played.parties r.agree.played.past r.agree.played.run in
+    let all = r.agree.follows.holds in record {
+      run = of_a_run mutex_model (Word.State ∷ []) (λ _ _ _. Unit {0}) AreHoldsIn s.words s.homes (sum_of (none_played no_holds) (both_played both_holds) s.views) r.agree;
+      word = hold_at (Word.State ∷ []) s.words 0 Word.State _ r.agree.played.hold refl ∙ held.0 ∙ sym all;
+      one = omega (arith, all, held.0, held.1);
+    }
 
 -- two holds would be more than one
 pub one_holder : OneHolder
 one_holder s r i j v w here there on also = dite (ℕ_discrete i j) (λ same. same)
     (λ apart. let two = sum_of_two (none_played no_holds) (both_played both_holds) (core_played (λ _. no_holds)) (played_add_up no_holds both_holds (λ _. no_holds) holds_add_up) s.views i j v w here there apart in
-    let sum = ap (λ (t : PlayedMutex). t.counts.holds) two.1 in let one = r.agree.agrees.one in absurd (omega arith))
+    let sum = ap (λ (t : PlayedMutex). t.counts.holds) two.1 in let one = (grants_are_of_a_run s r).one in absurd (omega arith))

@@ -1,5 +1,5 @@
 -- What contracts see of a condition variable and its pass, and what a call changes in a pass.
-use Rattle.running_mutex.specs.Names.{◌≡◌, ◌<◌, ℕ, Bool, MatchBool, Option, Some, None, Bor, Shared, Once, FnOnceReturnsAt, WaitAction, Part, IsWhole, HasLooked, IsSamePass, part_of, sights_of, MayAnswerAbort, HasAsked, counts_of, parties_of, Parties, HasCalled, Call, Answer, HoldKind, mutex_model, HasMoved, WasRefused, Holds, gave}
+use Rattle.running_mutex.specs.Names.{◌≡◌, ◌<◌, ℕ, Bool, MatchBool, Option, Some, None, Bor, Shared, Once, FnOnceReturnsAt, WaitAction, Part, IsWhole, HasLooked, IsSamePass, part_of, sights_of, MayAnswerAbort, HasAsked, counts_of, parties_of, Parties, HasCalled, Call, Answer, HoldKind, mutex_model, HasMoved, WasRefused, Holds, granted, released, gave}
 use Rattle.running_passes.specs.declared.wait.WaitResult.{WaitResult}
 use Rattle.running_passes.specs.declared.wait.WaitResult.TheVariants.{Success, Interrupted}
 use Rattle.running_model.specs.Stages.{IsPassOf}
@@ -12,7 +12,6 @@ use Rattle.running_mutex.specs.declared.condition_variable.CountedWait.{CountedW
 use Rattle.running_mutex.specs.declared.condition_variable.CondResult.{CondResult}
 use Rattle.running_mutex.specs.declared.condition_variable.Woken.{Woken}
 use Rattle.running_mutex.specs.declared.condition_variable.Woken.TheVariants.{Signalled, Unsignalled}
-use Rattle.running_mutex.specs.MutexSteps.{granted, released}
 use Rattle.running_mutex.specs.MutexShown.{MutexPass, IsLocked, holds_of}
 use Rattle.running_mutex.specs.CondRule.{WaitsPass, one_more}
 use Rattle.running_mutex.specs.CondParties.{Plays}

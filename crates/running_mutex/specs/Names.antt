@@ -4,13 +4,14 @@ pub use Rattle.running_passes.specs.Answers.{MayAnswerAbort, HasAsked}
 pub use Rattle.running_passes.specs.Parts.{IsWhole}
 pub use Rattle.running_passes.specs.Passes.{IsSamePass, part_of, sights_of}
 pub use Rattle.running_passes.specs.Sights.{HasLooked, stale}
-pub use Rattle.running_passes.specs.Views.{looked, wrote, IsCounted, missed, sum_of, Updates}
+pub use Rattle.running_passes.specs.Views.{looked, wrote, IsCounted, missed, sum_of, view_of}
 pub use Rattle.running_passes.specs.declared.part.Part.{Part}
 pub use Rattle.running_passes.specs.declared.pass.Pass.{Pass}
 pub use Rattle.running_passes.specs.declared.view.View.{View}
 pub use Rattle.running_model.specs.Counts.{HasMoved, WasRefused, HasGivenUp, WasRefusedAt}
-pub use Rattle.running_model.specs.Passes.{counts_of, parties_of, counted, none_played, both_played, PlaysAndCounts, IsOfARun, core_played, played_add_up, GoesOnCounting}
-pub use Rattle.running_model.specs.Plays.{HasCalled, IsAt, IsHolding, Coming, Went, Beginning, MayStep, Continuing, IsStepAt, ComesBy, Led}
+pub use Rattle.running_model.specs.Passes.{counts_of, parties_of, counted, none_played, both_played, PlaysAndCounts, IsOfARun, IsShare, Told, core_played, played_add_up}
+pub use Rattle.running_model.specs.Plays.{HasCalled, IsAt, IsHolding, Coming, Went, WentAlone, act_at, Beginning, MayStep, Continuing, IsStepAt, ComesBy, Led}
+pub use Rattle.running_model.specs.Sees.{sights_after}
 pub use Rattle.running_model.specs.Slots.{Parties, Slot, all_of}
 pub use Rattle.running_model.specs.Tries.{spun, IsRefused, IsGranted, MayTry, IsToWake}
 pub use Rattle.running_model.specs.Words.{IsNamed}
@@ -28,7 +29,7 @@ pub use Rattle.model_events.specs.declared.hold.HoldKind.{HoldKind}
 pub use Rattle.model_events.specs.declared.row.Intent.{Intent}
 pub use Rattle.model_mutex.specs.Table.{mutex_table, mutex_intent}
 pub use Rattle.model_mutex.specs.declared.MutexPlace.{MutexPlace}
-pub use Rattle.running_tallies.specs.MutexRule.{MutexAgrees, AreGrantsIn, both_holds, holds, no_holds, IsHeld}
-pub use Rattle.running_tallies.specs.MutexScript.{mutex_model, mutex_lawful}
+pub use Rattle.running_tallies.specs.MutexRule.{AreHoldsIn, both_holds, holds, no_holds, granted, released, holds_after}
+pub use Rattle.running_tallies.specs.MutexScript.{mutex_model}
 pub use Rattle.running_tallies.specs.declared.mutex.Holds.{Holds}
 pub use Rattle.running_tallies.specs.declared.mutex.MutexScript.{MutexScript}

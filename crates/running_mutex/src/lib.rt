@@ -21,7 +21,7 @@ use running_model::turn::{
     Attempt, Called, Continues, Goes, Turn, Way, begin_held, begin_new, try_again,
 };
 use running_model::{Sealed, Stage};
-use running_passes::{Deed, Origin, Pass, WaitResult};
+use running_passes::{Origin, Pass, WaitResult};
 use running_tallies::{Holds, MutexScript, PlayedMutex, WaitWord};
 use std::alloc::{AllocError, Allocator, Global};
 use std::ops::Deref;
@@ -57,24 +57,6 @@ pub struct MutexHold<'p> {
     pass: &'p mut MutexPass,
     ghost on: { (counts_of pass.now).holds ≡ 1 },
     ghost has: { HasMutex (parties_of pass.now) },
-}
-
-/// An exchange of 0 for 1.
-struct Exchange;
-
-impl Deed<(), Holds> for Exchange {
-    ghost use Rattle.running_mutex.specs.MutexSteps.{Exchanged};
-
-    ghost tells = { λ _ _ _. Exchanged };
-}
-
-/// A store of 0.
-struct Release;
-
-impl Deed<(), Holds> for Release {
-    ghost use Rattle.running_mutex.specs.MutexSteps.{Stored};
-
-    ghost tells = { λ _ _ _ before _ after. Stored before after };
 }
 
 /// A `TryLock`.
@@ -284,7 +266,7 @@ impl<A: Allocator> Mutex<A> {
         ensures tried { HasTried W.coming result.0 turn.entry.pass.now result.1.pass.now }
         ensures exact { IsAlone turn.entry.pass.now → result.0 ≡ true }
     {
-        let (found, next) = turn.exchange_by::<(), A, Exchange>(&self.stage, 0, 0, locked());
+        let (found, next) = turn.exchange(&self.stage, 0, 0, locked());
         (found == 0, next)
     }
 
@@ -318,7 +300,7 @@ impl<A: Allocator> Mutex<A> {
         ensures released { HasUnlocked turn.entry.pass.now result.pass.now }
         ensures played { HasPlayedUnlock turn.entry.pass.now result.pass.now }
     {
-        turn.store_by::<(), A, Release>(&self.stage, 0, 0)
+        turn.store(&self.stage, 0, 0)
     }
 
     /// The mutex's word, as closures see it.

@@ -80,5 +80,7 @@ impl CountsByActs<(), WaitersScript, WaitersPlace, u64> for Waits {
 
     ghost after = { waits_after };
 
+    ghost needs = { λ _ _. Unit {0} };
+
     ghost goes_on = { λ _. waits_go_on };
 }

@@ -1,78 +1,70 @@
--- Each step of a once keeps its rule.
-use Rattle.running_once.specs.Names.{View, IsWhole, total, looked, missed, wrote, sum_of, Updates, none_played, both_played, core_played, played_add_up}
-use Rattle.running_once.proofs.Names.{◌≡◌, ℕ, ◌+◌, ◌*◌, ◌≤◌, Bool, true, false, ◌||◌, eqb, List, [], ◌∷◌, get_or, set, refl, ap, ◌∙◌, ◌⊎◌, inl, inr, arith, length-set, get_or-set_same, eqb-true}
-use prog.Atomic.{either}
+-- What a step makes of what a pass saw and knows, and what the run says of it.
+use Rattle.model_events.specs.Past.{word_in}
+use Rattle.model_events.specs.Rows.{carried_out, value_told}
+use Rattle.running_once.specs.Names.{MatchBool, Word, Act, Intent, MayStep, WentAlone, Coming, View, IsWhole, total, view_of, sum_of, once_table, none_played, both_played, core_played, played_add_up, IsSamePass, IsShare, Told, part_of, sights_of, counts_of, parties_of, counted}
+use Rattle.running_once.proofs.Names.{◌≡◌, ℕ, ◌+◌, ◌==◌, Bool, true, false, ◌||◌, List, [], ◌∷◌, refl, ap, sym, subst, ◌∙◌, arith, eqb-true, eqb-false, true≢false}
+use Rattle.std.specs.Prelude.{Some}
+use Rattle.running_passes.specs.Sights.{HasLooked}
 use Rattle.running_passes.proofs.Sums.{others, sum_at}
-use Rattle.running_passes.proofs.Updates.{by_look, by_exchange}
+use Rattle.running_model.specs.Counts.{HasDone}
+use Rattle.running_model.specs.Sees.{sights_after}
+use Rattle.running_model.proofs.OfARun.{of_a_run}
+use Rattle.running_model.proofs.Steps.{told_so, found_there}
 use Rattle.running_once.specs.declared.Runs.{Runs}
-use Rattle.running_once.specs.OnceRule.{no_runs, both_runs, known_runs, IsRun, OnceAgrees, OnceView, OneClosure, KnownHasEnded, learns, began, ended, Says, Loaded, Exchanged, Stored}
+use Rattle.running_once.specs.OnceScript.{once_model}
+use Rattle.running_once.specs.OnceRule.{no_runs, both_runs, known_runs, runs_after, AreRunsIn, OnceView, OneClosure, KnownHasEnded, ClosuresAreOfARun, ended, Says, Loaded}
+use Rattle.running_once.specs.OnceShown.{PlayedPass, HasBegun, HasOnlyWaited, IsTaken}
 use Rattle.running_once.specs.OnceTally.{runs_add_up}
 
 or_true : (x y : Bool) → x ≡ true → (x || y) ≡ true
 or_true true y e = refl
 or_true false y e = cc
 
-module _ (words : List ℕ) where
-  says : (v : View Runs) (rest : Runs) → IsRun words (both_runs v.tally rest) → (IsWhole v.part → rest ≡ no_runs) → Says v (get_or words 0 0)
-  says v rest is alone = let word = is.word in let one = is.one in record {
-    known = λ complete. let there = is.known (or_true v.tally.complete rest.complete complete) in omega arith;
-    range = omega arith;
-    alone = λ whole. let r = ap (λ (t : Runs). t.running) (alone whole) in let e = ap (λ (t : Runs). t.ended) (alone whole) in omega arith;
-  }
+module _ (way : Coming ℕ) (intent : Word → Intent ℕ) (found : ℕ) (p : PlayedPass) (may : MayStep once_model (Word.State ∷ []) way 0 intent (parties_of p)) where
+  -- what a step found, the run says
+  pub says : ((w : Word) (memory : Word → ℕ) → value_told (carried_out (intent w) memory) ≡ Some (memory w)) → IsShare once_model both_runs AreRunsIn way (parties_of p) found (counts_of p) →
+      (IsWhole (part_of p) → WentAlone once_model (λ past. AreRunsIn past (counts_of p)) way (parties_of p) found) → Says (counted p) found
+  says tells share went =
+      let s = share.beside may.call may.place may.hold may.done may.comes in
+      let is = found_there _ _ _ _ intent (parties_of p) may Word.State may.named found tells (word_in once_table s.past) s.found_is in
+      let word = s.says.word in let begun = s.says.begun in let one = s.law.law.one in record {
+        known = λ complete. let there = s.says.known (or_true (counts_of p).complete share.rest.complete complete) in omega (arith, is, word, begun, one, there);
+        range = omega (arith, is, word, begun, one);
+        none = λ free. omega (arith, is, word, free);
+        alone = λ whole. let a = went whole may.call may.place may.hold may.done may.comes in
+            found_there _ _ _ _ intent (parties_of p) may Word.State may.named found tells (word_in once_table a.past) a.found_is ∙ a.says.word;
+      }
 
-  -- a pass that saw the word knows what it says
-  learns_again : (v : View Runs) (rest : Runs) → IsRun words (both_runs v.tally rest) → IsRun words (both_runs (learns (get_or words 0 0) v).tally rest)
-  learns_again v rest is = let word = is.word in let one = is.one in record { one_word = is.one_word; word = word; one = one; known = λ complete. there complete }
-    where
-      by_word : (get_or words 0 0 ≡ 2) → v.tally.ended + rest.ended ≡ 1
-      by_word two = let word = is.word in let one = is.one in omega arith
+pub loads : (way : Coming ℕ) (found : ℕ) (p q : PlayedPass) → MayStep once_model (Word.State ∷ []) way 0 (λ k. Intent.Load k) (parties_of p) → IsShare once_model both_runs AreRunsIn way (parties_of p) found (counts_of p) →
+    (IsWhole (part_of p) → WentAlone once_model (λ past. AreRunsIn past (counts_of p)) way (parties_of p) found) → Told once_model sights_after runs_after way (parties_of p) found (counted p) (counted q) → Loaded (counted p) found (counted q)
+loads way found p q may share went told =
+    record { says = says way (λ k. Intent.Load k) found p may (λ w memory. refl) share went; saw = told_so _ _ _ _ (λ k. Intent.Load k) (parties_of p) may Word.State may.named found sights_after runs_after (counted p) (counted q) told }
 
-      seen : (x y z : Bool) → ((x || y) || z) ≡ true → ((x || z) ≡ true) ⊎ (y ≡ true)
-      seen true y z e = inl refl
-      seen false true z e = inr refl
-      seen false false z e = inl e
+pub begins : (way : Coming ℕ) (put found : ℕ) (p q : PlayedPass) → MayStep once_model (Word.State ∷ []) way 0 (λ k. Intent.Exchange k 0 put) (parties_of p) → IsSamePass p q → IsShare once_model both_runs AreRunsIn way (parties_of p) found (counts_of p) →
+    (IsWhole (part_of p) → WentAlone once_model (λ past. AreRunsIn past (counts_of p)) way (parties_of p) found) → Told once_model sights_after runs_after way (parties_of p) found (counted p) (counted q) →
+    MatchBool (found == 0) (HasBegun p q) (HasOnlyWaited p q) × ((found == 0) ≡ false → HasLooked IsTaken 1 (sights_of p) (sights_of q))
+begins way put found p q may same share went told = by_test (found == 0) refl (says way (λ k. Intent.Exchange k 0 put) found p may (λ w memory. refl) share went).none
+    (told_so _ _ _ _ (λ k. Intent.Exchange k 0 put) (parties_of p) may Word.State may.named found sights_after runs_after (counted p) (counted q) told)
+  where
+    by_test : (b : Bool) → (found == 0) ≡ b → (found ≡ 0 → (counts_of p).ended ≡ 0) →
+        counted q ≡ view_of (counted p).part (sights_after {V = ℕ} (Act.Exchange Word.State 0 put found b) (counted p).sights) (runs_after (Act.Exchange Word.State 0 put found b) may.call (counts_of p)) →
+        MatchBool b (HasBegun p q) (HasOnlyWaited p q) × (b ≡ false → HasLooked IsTaken 1 (sights_of p) (sights_of q))
+    by_test true test none is = (record { same = same; first = none (eqb-true found 0 test); begins = is }, λ miss. absurd (true≢false miss))
+    by_test false test none is = let count = ap (λ (v : View Runs). v.sights.count) is in (
+      record {
+        same = same;
+        part = ap (λ (v : View Runs). v.part) is;
+        running = ap (λ (v : View Runs). v.tally.running) is;
+        ended = ap (λ (v : View Runs). v.tally.ended) is;
+        saw = omega (arith, count);
+      },
+      λ _. record { more = omega (arith, count); refusing = subst IsTaken (sym (ap (λ (v : View Runs). v.sights.last) is)) (eqb-false found 0 test) },
+    )
 
-      there : ((v.tally.complete || eqb (get_or words 0 0) 2) || rest.complete) ≡ true → v.tally.ended + rest.ended ≡ 1
-      there complete = elim (seen v.tally.complete (eqb (get_or words 0 0) 2) rest.complete complete) [ inl known ↦ is.known known | inr two ↦ by_word (eqb-true (get_or words 0 0) 2 two) ]
+pub ends : (way : Coming ℕ) (p q : PlayedPass) → MayStep once_model (Word.State ∷ []) way 0 (λ k. Intent.Store k 2) (parties_of p) → IsSamePass p q → Told once_model sights_after runs_after way (parties_of p) 2 (counted p) (counted q) → HasDone ended p q
+ends way p q may same told = (same, told_so _ _ _ _ (λ k. Intent.Store k 2) (parties_of p) may Word.State may.named 2 sights_after runs_after (counted p) (counted q) told)
 
-  -- the word is written
-  run_again : (new : ℕ) (t u : Runs) → IsRun words t → new ≡ u.running + 2 * u.ended → u.running + u.ended ≤ 1 → (u.complete ≡ true → u.ended ≡ 1) → IsRun (set words 0 new) u
-  run_again new t u is agrees one known = record { one_word = length-set words 0 new ∙ is.one_word; word = get_or-set_same words 0 new 0 (omega (arith, is.one_word)) ∙ agrees; one = one; known = known }
-
-pub loads : (v : View Runs) → Updates no_runs both_runs OnceAgrees v 0 (λ x. x) (Loaded v)
-loads v = by_look no_runs both_runs OnceAgrees v 0 (Loaded v) (λ words homes rest is alone fits. (
-  learns (get_or words 0 0) (looked v (get_or words 0 0)),
-  refl,
-  learns_again words v rest is,
-  record { says = says words v rest is alone; saw = refl },
-))
-
-pub exchanges : (v : View Runs) (new : ℕ) → new ≡ 1 → Updates no_runs both_runs OnceAgrees v 0 (λ x. either (eqb x 0) new x) (Exchanged v)
-exchanges v new is_1 = by_exchange no_runs both_runs OnceAgrees v 0 0 new (Exchanged v)
-    (λ words homes rest is alone fits hit. let word = is.word in (
-      wrote v (began v.tally),
-      refl,
-      run_again words new (both_runs v.tally rest) (both_runs (began v.tally) rest) is (omega arith) (omega arith) is.known,
-      record { says = says words v rest is alone; done = λ _. (omega arith, refl); failed = λ miss. absurd (miss hit) },
-    ))
-    (λ words homes rest is alone fits miss. (
-      learns (get_or words 0 0) (missed v 0 (get_or words 0 0)),
-      refl,
-      learns_again words v rest is,
-      record { says = says words v rest is alone; done = λ hit. absurd (miss hit); failed = λ _. refl },
-    ))
-
-pub stores : (v : View Runs) → v.tally.running ≡ 1 → Updates no_runs both_runs OnceAgrees v 0 (λ _. 2) (λ _. Stored v)
-stores v on = record {
-  may = λ words homes rest is alone fits. let word = is.word in let one = is.one in (
-    wrote v (ended v.tally),
-    refl,
-    run_again words 2 (both_runs v.tally rest) (both_runs (ended v.tally) rest) is (omega arith) (omega arith) (λ _. omega arith),
-    record { off = refl },
-  );
-}
-
--- the law
+-- whenever the rule holds
 
 abbrev sum_of_all : List OnceView → Runs
 sum_of_all views = (sum_of (none_played no_runs) (both_played both_runs) views).counts
@@ -86,11 +78,14 @@ total_ended [] = refl
 total_ended (v ∷ views) = let rest = total_ended views in omega arith
 
 pub one_closure : OneClosure
-one_closure s r = let begun = total_begun s.views in let one = r.agree.agrees.one in omega arith
+one_closure s r = let begun = total_begun s.views in let all = r.agree.follows.begun in let one = r.agree.played.law.law.one in omega (arith, begun, all, one)
 
 pub known_has_ended : KnownHasEnded
 known_has_ended s r i v here complete =
     let at = sum_at (none_played no_runs) (both_played both_runs) (core_played known_runs) (played_add_up no_runs both_runs known_runs runs_add_up) s.views i v here in
     let known = ap (λ t. t.counts.complete) at in
     total_ended s.views
-    ∙ r.agree.agrees.known (known ∙ or_true v.tally.counts.complete (others (none_played no_runs) (both_played both_runs) s.views i).counts.complete complete)
+    ∙ r.agree.follows.known (known ∙ or_true v.tally.counts.complete (others (none_played no_runs) (both_played both_runs) s.views i).counts.complete complete)
+
+pub closures_are_of_a_run : ClosuresAreOfARun
+closures_are_of_a_run s r = of_a_run once_model (Word.State ∷ []) (λ _ _ _. Unit {0}) AreRunsIn s.words s.homes (sum_of (none_played no_runs) (both_played both_runs) s.views) r.agree

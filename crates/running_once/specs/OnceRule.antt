@@ -1,9 +1,9 @@
 -- What a pass of a once counts and knows, the rule over all passes, and what a step changes.
-use Rattle.running_once.specs.Names.{◌≡◌, ◌≢◌, ℕ, ◌+◌, ◌*◌, ◌≤◌, Bool, true, false, ◌||◌, ◌==◌, List, [], ◌∷◌, length, slice_index, Word, Act, Event, OncePlace, begins_in, ends_in, View, IsWhole, total, view_of, looked, missed, wrote, IsCounted, sum_of, Played, none_played, both_played, PlaysAndCounts, IsOfARun}
-use mathlib.Core.Option as maybe
+use Rattle.running_once.specs.Names.{◌≡◌, ℕ, ◌+◌, ◌*◌, ◌≤◌, Bool, true, false, ◌||◌, ◌==◌, List, [], ◌∷◌, Word, Call, Act, Event, OncePlace, once_table, begins_in, ends_in, View, IsWhole, total, view_of, looked, IsCounted, sum_of, Played, none_played, both_played, PlaysAndCounts, IsOfARun}
 use mathlib.Core.Option.{some}
 use lib.ListN.{get_elem?}
 use Rattle.atomic_table.specs.Table.{State}
+use Rattle.model_events.specs.Past.{word_in}
 use Rattle.model_events.specs.Sights.{acts_in}
 use Rattle.running_once.specs.OnceScript.{once_model}
 use Rattle.running_once.specs.declared.Runs.{Runs}
@@ -26,28 +26,23 @@ known_runs t = runs 0 0 t.complete
 abbrev pub Amounts : ℕ → Runs → Type 0
 Amounts word t = word ≡ t.running + 2 * t.ended
 
--- There is one word: 0 where no closure began, 1 while one runs, 2 once it has ended. One begins at most; and where a pass knows that
--- one ended, it did.
-pub record IsRun (words : List ℕ) (t : Runs) : Type 0 where
-  pub one_word : length words ≡ 1
-  pub word : Amounts (slice_index words 0) t
-  pub one : t.running + t.ended ≤ 1
-  pub known : t.complete ≡ true → t.ended ≡ 1
-
-abbrev pub OnceAgrees : List ℕ → List (maybe.Option (Unit {0})) → Runs → Type 0
-OnceAgrees words homes = IsRun words
-
 -- a store of the word completes the once
 abbrev pub is_completion : Act ℕ → Bool
 is_completion (Act.Store Word.State put) = true
 is_completion act = false
 
 -- What the run says of it: so many closures began, and so many calls stored that theirs had ended. The end itself comes just before, on no
--- word, so each of them stands in the run.
-pub record AreRunsIn (past : List (Event ℕ)) (t : Runs) : Type 0 where
-  pub begun : t.running + t.ended ≡ begins_in past
-  pub completed : t.ended ≡ acts_in is_completion past
-  pub over : t.ended ≤ ends_in past
+-- word, so each of them stands in the run. The word is 0 where none began, 1 while one runs, 2 once it has ended; and where a pass knows that
+-- one ended, it did.
+pub record AreRuns (held begins completions ends : ℕ) (t : Runs) : Type 0 where
+  pub word : Amounts held t
+  pub begun : t.running + t.ended ≡ begins
+  pub completed : t.ended ≡ completions
+  pub over : t.ended ≤ ends
+  pub known : t.complete ≡ true → t.ended ≡ 1
+
+abbrev pub AreRunsIn : List (Event ℕ) → Runs → Type 0
+AreRunsIn past = AreRuns (word_in once_table past Word.State) (begins_in past) (acts_in is_completion past) (ends_in past)
 
 -- what the pass of a once is in its model, and knows
 abbrev pub OnceView : Type 0
@@ -55,7 +50,7 @@ OnceView = View (Played OnceScript OncePlace ℕ Runs)
 
 -- the rule of a once holds
 abbrev pub IsRuled : State (Unit {0}) OnceView → Type 0
-IsRuled s = IsCounted (none_played no_runs) (both_played both_runs) (PlaysAndCounts once_model (Word.State ∷ []) OnceAgrees AreRunsIn) s
+IsRuled s = IsCounted (none_played no_runs) (both_played both_runs) (PlaysAndCounts once_model (Word.State ∷ []) (λ _ _ _. Unit {0}) AreRunsIn) s
 
 -- whenever it does, all passes are the parties of a run, and began as many closures as calls did in it, and completed as many
 abbrev pub ClosuresAreOfARun : Type 0
@@ -70,8 +65,11 @@ abbrev pub KnownHasEnded : Type 0
 KnownHasEnded = (s : State (Unit {0}) OnceView) → IsRuled s → (i : ℕ) (v : OnceView) → get_elem? s.views i ≡ some v → v.tally.counts.complete ≡ true → total (λ u. u.tally.counts.ended) s.views ≡ 1
 
 -- at 2 the pass knows that a closure has ended
+abbrev pub sees : ℕ → Runs → Runs
+sees found t = runs t.running t.ended (t.complete || (found == 2))
+
 abbrev pub learns : ℕ → View Runs → View Runs
-learns found v = view_of v.part v.sights (runs v.tally.running v.tally.ended (v.tally.complete || (found == 2)))
+learns found v = view_of v.part v.sights (sees found v.tally)
 
 -- a closure begins, and ends
 abbrev pub began : Runs → Runs
@@ -80,23 +78,27 @@ began t = runs 1 t.ended t.complete
 abbrev pub ended : Runs → Runs
 ended t = runs 0 (t.ended + 1) true
 
+-- what an act makes of a tally: an exchange that is done begins a closure, and a store ends it; the others see the word
+abbrev pub runs_after : Act ℕ → Call ℕ → Runs → Runs
+runs_after (Act.Load word found) call t = sees found t
+runs_after (Act.Exchange word from to found false) call t = sees found t
+runs_after (Act.Exchange word from to found true) call t = began t
+runs_after (Act.Store word put) call t = ended t
+runs_after act call t = t
+
+-- and what it needs of it: only a closure that runs is ended
+abbrev pub runs_needed : Act ℕ → Runs → Type 0
+runs_needed (Act.Store word put) t = t.running ≡ 1
+runs_needed act t = Unit {0}
+
 -- What the word says. Where no other pass is left, it is what this one did.
 pub record Says (v : View Runs) (found : ℕ) : Type 0 where
   pub known : v.tally.complete ≡ true → found ≡ 2
   pub range : found ≤ 2
+  pub none : found ≡ 0 → v.tally.ended ≡ 0
   pub alone : IsWhole v.part → Amounts found v.tally
 
 -- a load
 pub record Loaded (v : View Runs) (found : ℕ) (w : View Runs) : Type 0 where
   pub says : Says v found
   pub saw : w ≡ learns found (looked v found)
-
--- an exchange of 0 for 1: a closure begins, or the pass saw another value
-pub record Exchanged (v : View Runs) (found : ℕ) (w : View Runs) : Type 0 where
-  pub says : Says v found
-  pub done : found ≡ 0 → (v.tally.ended ≡ 0) × (w ≡ wrote v (began v.tally))
-  pub failed : found ≢ 0 → w ≡ learns found (missed v 0 found)
-
--- a store of 2 by the pass whose closure runs
-pub record Stored (v : View Runs) (w : View Runs) : Type 0 where
-  pub off : w ≡ wrote v (ended v.tally)

@@ -14,8 +14,8 @@ mod shares;
 
 use model_once::{OncePlace, begun};
 use running_model::turn::{AfterAside, Called, Goes, Turn, Way, begin_new};
-use running_model::{Counts, Played, Script, Stage};
-use running_passes::{Deed, Pass, Rule, Tally};
+use running_model::{Counts, CountsByActs, Played, Script, Stage};
+use running_passes::{Pass, Rule, Tally};
 use std::alloc::{AllocError, Allocator, Global};
 use std::hint::spin_loop;
 use std::sync::Wait;
@@ -65,26 +65,41 @@ impl Tally for Runs {
     ghost adds_up = { runs_add_up };
 }
 
-/// The word says whether a closure has begun and ended, and one begins at most.
+/// The run alone says what all passes count and know.
 impl Rule<(), ()> for Runs {
-    ghost use Rattle.running_once.specs.OnceRule.{no_runs, OnceAgrees};
+    ghost use Rattle.running_once.specs.OnceRule.{no_runs};
 
     ghost first = { λ _. no_runs };
 
-    ghost agrees = { λ _. OnceAgrees };
+    ghost agrees = { λ _ _ _ _. Unit {0} };
 }
 
-/// All passes together began as many closures as the run has, and completed as many. What a pass knows beside is tied to the word alone.
+/// All passes together began as many closures as the run has, and completed as many.
 impl Counts<(), u64> for Runs {
-    ghost use Rattle.std.proofs.Common.{refl, arith};
     ghost use Rattle.running_once.specs.OnceRule.{AreRunsIn};
-    ghost use Rattle.running_once.specs.OnceTally.{runs_stay};
+    ghost use Rattle.running_once.specs.OnceTally.{runs_open, runs_stay};
 
     ghost follow = { λ _. AreRunsIn };
 
     ghost stays = { λ _. runs_stay };
 
-    ghost opens = { λ _. record { begun = refl; completed = refl; over = omega arith } };
+    ghost opens = { λ _. runs_open };
+}
+
+impl CountsByActs<(), OnceScript, OncePlace, u64> for Runs {
+    ghost use Rattle.running_model.specs.Sees.{sights_after};
+    ghost use Rattle.running_once.specs.OnceRule.{runs_after, runs_needed};
+    ghost use Rattle.running_once.specs.OnceTally.{runs_go_on};
+
+    ghost free = { λ _ _ _ _. tt };
+
+    ghost sees = { sights_after };
+
+    ghost after = { runs_after };
+
+    ghost needs = { runs_needed };
+
+    ghost goes_on = { λ _. runs_go_on };
 }
 
 /// A closure that runs once.
@@ -116,33 +131,6 @@ impl<Y> Ran<Y> {
     {
         &self.given
     }
-}
-
-/// A load.
-struct Look;
-
-impl Deed<(), Runs> for Look {
-    ghost use Rattle.running_once.specs.OnceRule.{Loaded};
-
-    ghost tells = { λ _ _ _. Loaded };
-}
-
-/// An exchange of 0 for 1.
-struct Begin;
-
-impl Deed<(), Runs> for Begin {
-    ghost use Rattle.running_once.specs.OnceRule.{Exchanged};
-
-    ghost tells = { λ _ _ _. Exchanged };
-}
-
-/// A store of 2.
-struct End;
-
-impl Deed<(), Runs> for End {
-    ghost use Rattle.running_once.specs.OnceRule.{Stored};
-
-    ghost tells = { λ _ _ _ before _ after. Stored before after };
 }
 
 /// A `CallOnce`.
@@ -387,7 +375,6 @@ impl<A: Allocator> Once<A> {
     }
 
     /// A load.
-    #[tactic(auto, using(crate::proofs::OnceKeeps::loads))]
     #[inline(always)]
     fn look<'p, W: Way<u64>>(
         &self,
@@ -400,7 +387,7 @@ impl<A: Allocator> Once<A> {
         ensures told { Loaded (counted turn.entry.pass.now) result.0 (counted result.1.pass.now) }
         ensures went { Went once_model W.coming (parties_of turn.entry.pass.now) result.0 (parties_of result.1.pass.now) }
     {
-        turn.load_by::<(), A, Look>(&self.stage, 0)
+        turn.load(&self.stage, 0)
     }
 
     /// The load with which a call begins.
@@ -434,12 +421,11 @@ impl<A: Allocator> Once<A> {
         ensures runs { result.0 ≡ true → WhereBegins (parties_of turn.entry.pass.now) (λ done. IsRunning done (parties_of result.1.pass.now)) }
         ensures stays { result.0 ≡ false → WhereBegins (parties_of turn.entry.pass.now) (λ done. ComesToStay done (parties_of result.1.pass.now)) }
     {
-        let (found, next) = turn.exchange_by::<(), A, Begin>(&self.stage, 0, 0, running());
+        let (found, next) = turn.exchange(&self.stage, 0, 0, running());
         (found == 0, next)
     }
 
     /// A store of 2, by the pass whose closure has ended.
-    #[tactic(auto, using(crate::proofs::OnceKeeps::stores))]
     #[inline(always)]
     fn end<'p>(
         &self,
@@ -452,7 +438,7 @@ impl<A: Allocator> Once<A> {
         ensures ended { HasDone ended turn.entry.pass.now result.pass.now }
         ensures left { WhereRuns (parties_of turn.entry.pass.now) (λ done. HasLeft done (parties_of result.pass.now)) }
     {
-        turn.store_by::<(), A, End>(&self.stage, 0, COMPLETE)
+        turn.store(&self.stage, 0, COMPLETE)
     }
 }
 

@@ -1,6 +1,6 @@
 -- What a step makes of what a pass saw and counts; and where no other pass is left, the word is what its tally comes to.
 use Rattle.running_semaphore.specs.Names.{Word, Call, Intent, carried_out, value_told, SemaphorePlace, semaphore_table, View, view_of, looked, missed, wrote, sum_of, Parties, sights_after, Coming, Beginning, MayStep, WentAlone, played, none_played, both_played, PlaysAndCounts, Told, SemaphoreScript, Permits, no_permits, both_permits, value_of, permits_after, ArePermitsOf, semaphore_model}
-use Rattle.running_semaphore.proofs.Names.{◌≡◌, ◌≢◌, ℕ, ◌+◌, ◌-◌, ◌%◌, ◌^◌, ◌<◌, ◌≤◌, ◌==◌, Bool, true, List, [], ◌∷◌, ap, sym, subst, ◌∙◌, refl, Some, arith, ne_eqb, some_same, eqb_same}
+use Rattle.running_semaphore.proofs.Names.{◌≡◌, ◌≢◌, ℕ, ◌+◌, ◌-◌, ◌%◌, ◌^◌, ◌<◌, ◌≤◌, ◌==◌, Bool, true, List, [], ◌∷◌, ap, sym, subst, ◌∙◌, refl, Some, arith, ne_eqb, eqb_same}
 use Rattle.model_events.specs.declared.event.Act.{Act}
 use Rattle.model_events.specs.declared.event.Event.{Event}
 use Rattle.model_events.specs.Past.{word_in}
@@ -10,6 +10,7 @@ use Rattle.model_semaphore.proofs.Laws.{semaphore_tallies}
 use Rattle.running_passes.specs.Objects.{HasClosed}
 use Rattle.running_model.proofs.Words.{hold_at}
 use Rattle.running_model.proofs.OfARun.{of_a_run}
+use Rattle.running_model.proofs.Steps.{told_so, found_there}
 use Rattle.running_semaphore.specs.SemaphoreSteps.{PlayedSemaphore, PermitsAreOfARun, took, gave}
 
 module _ (initial : ℕ) where
@@ -18,28 +19,23 @@ module _ (initial : ℕ) where
   abbrev After : Act ℕ → Call ℕ → View Permits → View Permits
   After act call v = view_of v.part (sights_after act v.sights) (permits_after act call v.tally)
 
-  told_so : (way : Coming ℕ) (p : Parties ℕ) (found : ℕ) (v w : View Permits) (intent : Word → Intent ℕ) (may : MayStep (semaphore_model initial) (Word.State ∷ []) way 0 intent p) →
-      Told (semaphore_model initial) sights_after permits_after way p found v w → w ≡ After (carried_out (intent Word.State) (λ _. found)) may.call v
-  told_so way p found v w intent may told = told may.call may.place may.hold may.done may.comes
-      ∙ ap (λ (k : Intent ℕ). After (carried_out k (λ _. found)) may.call v) (may.intends ∙ sym (ap intent may.named))
-
   pub loads : (way : Coming ℕ) (p : Parties ℕ) (found : ℕ) (v w : View Permits) → MayStep (semaphore_model initial) (Word.State ∷ []) way 0 (λ k. Intent.Load k) p →
       Told (semaphore_model initial) sights_after permits_after way p found v w → w ≡ looked v found
-  loads way p found v w may told = told_so way p found v w (λ k. Intent.Load k) may told
+  loads way p found v w may told = told_so _ _ _ _ (λ k. Intent.Load k) p may Word.State may.named found sights_after permits_after v w told
 
   pub takes : (way : Coming ℕ) (p : Parties ℕ) (old new found : ℕ) (v w : View Permits) → MayStep (semaphore_model initial) (Word.State ∷ []) way 0 (λ k. Intent.Exchange k old new) p →
       Told (semaphore_model initial) sights_after permits_after way p found v w → found ≡ old → w ≡ wrote v (took v.tally)
-  takes way p old new found v w may told hit = told_so way p found v w (λ k. Intent.Exchange k old new) may told
+  takes way p old new found v w may told hit = told_so _ _ _ _ (λ k. Intent.Exchange k old new) p may Word.State may.named found sights_after permits_after v w told
       ∙ ap (λ (b : Bool). After (Act.Exchange Word.State old new found b) may.call v) (subst (λ n. (n == old) ≡ true) (sym hit) (eqb_same old))
 
   pub misses : (way : Coming ℕ) (p : Parties ℕ) (old new found : ℕ) (v w : View Permits) → MayStep (semaphore_model initial) (Word.State ∷ []) way 0 (λ k. Intent.Exchange k old new) p →
       Told (semaphore_model initial) sights_after permits_after way p found v w → found ≢ old → w ≡ missed v old found
-  misses way p old new found v w may told miss = told_so way p found v w (λ k. Intent.Exchange k old new) may told
+  misses way p old new found v w may told miss = told_so _ _ _ _ (λ k. Intent.Exchange k old new) p may Word.State may.named found sights_after permits_after v w told
       ∙ ap (λ (b : Bool). After (Act.Exchange Word.State old new found b) may.call v) (ne_eqb found old miss)
 
   pub gives : (p : Parties ℕ) (n found : ℕ) (v w : View Permits) → (may : MayStep (semaphore_model initial) (Word.State ∷ []) (Beginning (Call.Post n)) 0 (λ k. Intent.Add k n) p) →
       Told (semaphore_model initial) sights_after permits_after (Beginning (Call.Post n)) p found v w → w ≡ wrote v (gave n v.tally)
-  gives p n found v w may told = told_so (Beginning (Call.Post n)) p found v w (λ k. Intent.Add k n) may told
+  gives p n found v w may told = told_so _ _ _ _ (λ k. Intent.Add k n) p may Word.State may.named found sights_after permits_after v w told
       ∙ ap (λ (call : Call ℕ). After (Act.Add Word.State found ((found + n) % 2 ^ 64)) call v) (sym may.comes.0)
 
   -- Where no other pass is left, the word is what the tally comes to.
@@ -56,22 +52,18 @@ module _ (initial : ℕ) where
 
   -- and so do the calls find it
   module _ (fits : initial < 2 ^ 64) (t : Permits) where
-    found_there : (intent : Word → Intent ℕ) (way : Coming ℕ) (p : Parties ℕ) (found : ℕ) → ((w : Word) (memory : Word → ℕ) → value_told (carried_out (intent w) memory) ≡ Some (memory w)) →
+    left_there : (intent : Word → Intent ℕ) (way : Coming ℕ) (p : Parties ℕ) (found : ℕ) → ((w : Word) (memory : Word → ℕ) → value_told (carried_out (intent w) memory) ≡ Some (memory w)) →
         MayStep (semaphore_model initial) (Word.State ∷ []) way 0 intent p → WentAlone (semaphore_model initial) (λ past. ArePermitsOf initial past t) way p found → Leaves t found
-    found_there intent way p found tells may went =
+    left_there intent way p found tells may went =
         let s = went may.call may.place may.hold may.done may.comes in
-        let act : carried_out (intent may.name) (λ _. found) ≡ carried_out (intent may.name) (word_in (semaphore_table initial) s.past) =
-        subst (λ (k : Intent ℕ). carried_out k (λ _. found) ≡ carried_out k (word_in (semaphore_table initial) s.past)) may.intends s.found_is in
-        let found_is : found ≡ word_in (semaphore_table initial) s.past Word.State =
-        some_same _ _ (sym (tells may.name (λ _. found)) ∙ ap value_told act ∙ tells may.name (word_in (semaphore_table initial) s.past)) ∙ sym (ap (word_in (semaphore_table initial) s.past) may.named) in
-        subst (Leaves t) (sym found_is) (leaves fits s.parties s.past t s.run s.says)
+        subst (Leaves t) (sym (found_there _ _ _ _ intent p may Word.State may.named found tells (word_in (semaphore_table initial) s.past) s.found_is)) (leaves fits s.parties s.past t s.run s.says)
 
     pub loaded_there : (way : Coming ℕ) (p : Parties ℕ) (found : ℕ) → MayStep (semaphore_model initial) (Word.State ∷ []) way 0 (λ w. Intent.Load w) p → WentAlone (semaphore_model initial) (λ past. ArePermitsOf initial past t) way p found → Leaves t found
-    loaded_there way p found = found_there (λ w. Intent.Load w) way p found (λ w memory. refl)
+    loaded_there way p found = left_there (λ w. Intent.Load w) way p found (λ w memory. refl)
 
     pub exchanged_there : (old new : ℕ) (way : Coming ℕ) (p : Parties ℕ) (found : ℕ) → MayStep (semaphore_model initial) (Word.State ∷ []) way 0 (λ w. Intent.Exchange w old new) p →
         WentAlone (semaphore_model initial) (λ past. ArePermitsOf initial past t) way p found → Leaves t found
-    exchanged_there old new way p found = found_there (λ w. Intent.Exchange w old new) way p found (λ w memory. refl)
+    exchanged_there old new way p found = left_there (λ w. Intent.Exchange w old new) way p found (λ w memory. refl)
 
     pub closed_there : (p : Parties ℕ) (found : ℕ) → HasClosed {S = Unit {0}} (PlaysAndCounts {M = SemaphoreScript} {Q = SemaphorePlace} (semaphore_model initial) (Word.State ∷ []) (λ _ _ _. Unit {0}) (ArePermitsOf initial)) (played p t) 0 found → Leaves t found
     closed_there p found closed = let r = closed.rule in

@@ -1,6 +1,6 @@
 -- Each step of a lock that guards a value keeps its rule, whatever model its passes play.
-use Rattle.running_spin_lock.specs.Names.{get_elem?, State, Me, opening, keeps, takes, gives, put_back, rest, Allows, Final, Seen, Sights, View, IsWhole, stale, first_view, view_of, sum_of, IsCounted, Word, Call, Act, Event, Intent, HoldKind, carried_out, call_of, IsPast, Model, Played, Coming, Continuing, IsStepAt, MayStep, Went, played, played_add_up, IsOfARun, grants_by, next_grants, Holds, no_holds, both_holds, AreGrantsIn}
-use Rattle.running_spin_lock.proofs.Names.{◌≡◌, ◌≢◌, ℕ, zero, suc, MatchBool, ◌+◌, ◌==◌, ◌<◌, ◌≤◌, eqb, cond, List, [], ◌∷◌, get_or, set, sym, refl, ap, ◌∙◌, subst, arith, true, Option, Some, None, length-set, get_or-set_same, true-eqb, and_parts, false≢true, ne_eqb, shared_first, shared_step}
+use Rattle.running_spin_lock.specs.Names.{get_elem?, State, Me, opening, keeps, takes, gives, put_back, rest, Allows, Final, Seen, Sights, View, IsWhole, stale, first_view, view_of, sum_of, IsCounted, Word, Call, Act, Event, Intent, HoldKind, carried_out, call_of, IsPast, Model, Played, Coming, Continuing, IsStepAt, MayStep, Went, played, played_add_up, IsOfARun, grants_by, next_grants, Holds, no_holds, both_holds, granted, released, AreGrantsIn}
+use Rattle.running_spin_lock.proofs.Names.{◌≡◌, ◌≢◌, ℕ, ◌+◌, ◌==◌, ◌<◌, ◌≤◌, eqb, cond, List, [], ◌∷◌, Bool, get_or, set, sym, refl, ap, ◌∙◌, subst, arith, true, Option, Some, None, length-set, get_or-set_same, true-eqb, and_parts, false≢true, ne_eqb, shared_first, shared_step}
 use mathlib.Core.Logic.{dite}
 use mathlib.Core.Option as maybe
 use native.Mathlib.Decide.{ℕ_discrete}
@@ -11,9 +11,9 @@ use Rattle.running_model.specs.Words.{effect}
 use Rattle.running_model.proofs.Opening as opening_runs
 use Rattle.running_model.proofs.OfARun.{of_a_run}
 use Rattle.running_model.proofs.Updates.{makes, made_run}
-use Rattle.running_tallies.specs.MutexTally.{holds_add_up, grants_stay, at_zero, beside_zero}
+use Rattle.running_tallies.specs.MutexTally.{holds_add_up, grants_stay}
 use Rattle.running_spin_lock.specs.ValueRule.{none_held, both_held, core_held, IsGuarding, ValueAgrees, OneHolder}
-use Rattle.running_spin_lock.specs.ValueSteps.{granted, released, Tried, Stored, is_vacant, has_vacant_slot}
+use Rattle.running_spin_lock.specs.ValueSteps.{Tried, Stored, is_vacant, has_vacant_slot}
 
 -- a step of this intent grants its call where it found 0, and no other call
 abbrev pub GrantsAtZero : {P : Type 0} → Model ℕ P → (Word → Intent ℕ) → Type 0
@@ -21,10 +21,11 @@ GrantsAtZero {P} m intent =
     (call : Call ℕ) (place : P) (hold : Option HoldKind) (past : List (Event ℕ)) (e : Event ℕ) (name : Word) (found : ℕ) → IsStepAt m call place hold found past e → Word.State ≡ name →
     e.act ≡ carried_out (intent name) (λ _. found) → grants_by m.table HoldKind.Write e.act (call_of e.party past) ≡ cond (found == 0) 1 0
 
--- a try found the lock free, or not
-pub zero_or_not : (n : ℕ) → MatchBool (n == 0) (n ≡ 0) (n ≢ 0)
-zero_or_not zero = refl
-zero_or_not (suc n) = let some : suc n ≢ 0 = λ same. absurd (omega (arith, same)) in rw (ne_eqb (suc n) 0 some) some
+at_zero : (found grants : ℕ) → grants ≡ cond (found == 0) 1 0 → found ≡ 0 → grants ≡ 1
+at_zero found grants is free = is ∙ ap (λ (n : ℕ). cond (n == 0) 1 0) free
+
+beside_zero : (found grants : ℕ) → grants ≡ cond (found == 0) 1 0 → found ≢ 0 → grants ≡ 0
+beside_zero found grants is some = is ∙ ap (λ (b : Bool). cond b 1 0) (ne_eqb found 0 some)
 
 module _ {M Q : Type 0} where
   pub held_add_up : IsTally {T = Played M Q ℕ Holds} none_held both_held core_held
@@ -58,7 +59,7 @@ module _ {M Q : Type 0} where
         → MayStep m (Word.State ∷ []) coming 0 intent me.0.tally.parties → GrantsAtZero m intent → Allows IsKept slots id me 0 f (λ found after. Went m coming me.0.tally.parties found after.0.tally.parties × Tried see me found after)
     tries lawful slots id see coming intent f me leaves grants stays none alive may granting s r wide at fits =
         let v : View (Played M Q ℕ Holds) = me.0 in let more : Played M Q ℕ Holds = the_others s.views id in let is = apart s id v r at in
-        let word = is.agrees.held.word in let one = is.agrees.held.one in let long = is.agrees.held.one_word in
+        let word = is.agrees.word in let one = is.agrees.one in let long = is.agrees.one_word in
         let x : ℕ = get_or s.words 0 0 in let y : ℕ = f x in
         let Says : List (Event ℕ) → Type 0 = λ past. AreGrantsIn m.table past (both_holds v.tally.counts more.counts) in
         let a = makes m (Word.State ∷ []) lawful (tt, tt) coming s.words v.tally.parties more.parties 0 y x intent may (λ w. leaves w x) (λ w. refl) is.played Says
@@ -75,7 +76,9 @@ module _ {M Q : Type 0} where
           kept_again s id v w r at refl alive (set s.words 0 y) (set s.homes 0 maybe.none) (record {
             played = made_run m (Word.State ∷ []) _ _ _ _ _ _ _ _ _ _ _ _ a;
             agrees = record {
-              held = record { one_word = length-set s.words 0 y ∙ long; word = put ∙ is_1 ∙ omega (arith, word, free); one = omega (arith, word, free) };
+              one_word = length-set s.words 0 y ∙ long;
+              word = put ∙ is_1 ∙ omega (arith, word, free);
+              one = omega (arith, word, free);
               home = λ off. absurd (omega (arith, off));
               out = λ _. ap (λ hs. set hs 0 maybe.none) home.1;
             };
@@ -99,7 +102,9 @@ module _ {M Q : Type 0} where
           kept_again s id v w r at refl alive (set s.words 0 y) s.homes (record {
             played = made_run m (Word.State ∷ []) _ _ _ _ _ _ _ _ _ _ _ _ a;
             agrees = record {
-              held = record { one_word = length-set s.words 0 y ∙ long; word = put ∙ is_x ∙ word; one = one };
+              one_word = length-set s.words 0 y ∙ long;
+              word = put ∙ is_x ∙ word;
+              one = one;
               home = is.agrees.home;
               out = is.agrees.out;
             };
@@ -122,7 +127,7 @@ module _ {M Q : Type 0} where
         → Allows IsKept slots id me 0 (λ _. 0) (λ _ after. Went m (Continuing Call.Unlock) me.0.tally.parties 0 after.0.tally.parties × Stored me after)
     stores lawful slots id me b carries on alive may s r wide at fits =
         let v : View (Played M Q ℕ Holds) = me.0 in let more : Played M Q ℕ Holds = the_others s.views id in let is = apart s id v r at in
-        let word = is.agrees.held.word in let one = is.agrees.held.one in let long = is.agrees.held.one_word in
+        let word = is.agrees.word in let one = is.agrees.one in let long = is.agrees.one_word in
         let Says : List (Event ℕ) → Type 0 = λ past. AreGrantsIn m.table past (both_holds v.tally.counts more.counts) in
         let a = makes m (Word.State ∷ []) lawful (tt, tt) (Continuing Call.Unlock) s.words v.tally.parties more.parties 0 0 0 (λ w. Intent.Store w 0) may (λ w. refl) (λ w. refl) is.played Says
         (λ past e quiet so. grants_stay m.table past e (both_holds v.tally.counts more.counts) quiet so) is.follows in
@@ -135,7 +140,9 @@ module _ {M Q : Type 0} where
           kept_again s id v w r at refl alive (set s.words 0 0) (put_back s.homes me.1) (record {
             played = made_run m (Word.State ∷ []) _ _ _ _ _ _ _ _ _ _ _ _ a;
             agrees = record {
-              held = record { one_word = length-set s.words 0 0 ∙ long; word = get_or-set_same s.words 0 0 0 (omega (arith, long)) ∙ omega (arith, one, on); one = omega (arith, one, on) };
+              one_word = length-set s.words 0 0 ∙ long;
+              word = get_or-set_same s.words 0 0 0 (omega (arith, long)) ∙ omega (arith, one, on);
+              one = omega (arith, one, on);
               home = λ _. (b, λ i. put_back (out i) (carries i));
               out = λ on_again. absurd (omega (arith, one, on, on_again));
             };
@@ -148,7 +155,7 @@ module _ {M Q : Type 0} where
         → IsKept (opening (0 ∷ []) slots (first_view none_held))
     opens lawful free x slots is = subst (λ l. IsKept (opening (0 ∷ []) l (first_view none_held))) (sym is) (record {
       agree = opening_runs.opens m (Word.State ∷ []) _ _ (0 ∷ []) _ no_holds lawful (free, tt)
-          (record { held = record { one_word = refl; word = refl; one = omega arith }; home = λ _. (x, refl); out = λ on. absurd (omega (arith, on)) }) refl;
+          (record { one_word = refl; word = refl; one = omega arith; home = λ _. (x, refl); out = λ on. absurd (omega (arith, on)) }) refl;
       shared = shared_first (first_view none_held) refl;
     })
 
@@ -169,8 +176,8 @@ module _ {M Q : Type 0} where
     one_holder s r = record {
       one = λ i j v w here there on also. dite (ℕ_discrete i j) (λ same. same)
           (λ differ. let two = sum_of_two none_held both_held core_held held_add_up s.views i j v w here there differ in
-          let sum = ap (λ (t : Played M Q ℕ Holds). t.counts.holds) two.1 in let one = r.agree.agrees.held.one in absurd (omega (arith, sum, one, on, also)));
-      out = λ i v here on. let is = apart s i v r here in let one = is.agrees.held.one in is.agrees.out (omega (arith, one, on));
+          let sum = ap (λ (t : Played M Q ℕ Holds). t.counts.holds) two.1 in let one = r.agree.agrees.one in absurd (omega (arith, sum, one, on, also)));
+      out = λ i v here on. let is = apart s i v r here in let one = is.agrees.one in is.agrees.out (omega (arith, one, on));
     }
 
 module _ {T : Type 0} where

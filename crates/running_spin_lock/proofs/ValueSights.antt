@@ -1,8 +1,8 @@
 -- What was seen over several tries of a lock that guards a value.
-use Rattle.running_spin_lock.specs.Names.{Sights, View, Played, Holds}
+use Rattle.running_spin_lock.specs.Names.{Sights, View, Played, Holds, granted}
 use Rattle.running_spin_lock.proofs.Names.{◌≡◌, ℕ, ◌+◌, ap, refl, ◌∙◌, subst, arith}
 use Rattle.running_passes.proofs.Attempts.{read_twice, read_and_written}
-use Rattle.running_spin_lock.specs.ValueSteps.{granted, Locks, Sees, Enters, OnlySees}
+use Rattle.running_spin_lock.specs.ValueSteps.{Locks, Sees, Enters, OnlySees}
 
 module _ {M Q : Type 0} where
   pub sees_none : (v : View (Played M Q ℕ Holds)) → OnlySees v v

@@ -12,7 +12,7 @@ pub use Rattle.running_model.specs.Plays.{IsAt, IsHolding, HasEnded, HasCalled, 
 pub use Rattle.running_model.specs.Slots.{Slot, Parties, all_of}
 pub use Rattle.running_model.specs.Sums.{grants_by, next_grants}
 pub use Rattle.running_model.specs.declared.played.Played.{Played}
-pub use Rattle.std.specs.Prelude.{ℕ, List, ◌≡◌, true, ◌⊎◌, Some, None, ◌+◌, ◌<◌, ◌≤◌, Option, [], ◌∷◌, ◌≢◌, Bool, false, ◌==◌, ◌&&◌, MatchBool}
+pub use Rattle.std.specs.Prelude.{ℕ, List, length, slice_index, ◌≡◌, true, ◌⊎◌, Some, None, ◌+◌, ◌<◌, ◌≤◌, Option, [], ◌∷◌, ◌≢◌, Bool, false, ◌==◌, ◌&&◌, MatchBool}
 pub use Rattle.model_events.specs.Past.{PendingCall, call_of}
 pub use Rattle.model_events.specs.Rows.{carried_out}
 pub use Rattle.model_events.specs.Runs.{IsPast}
@@ -27,6 +27,6 @@ pub use Rattle.model_events.specs.declared.row.Intent.{Intent}
 pub use Rattle.model_spin.specs.Law.{KeepsSpin, SpinStep}
 pub use Rattle.model_spin.specs.Table.{spin_table, spin_intent}
 pub use Rattle.model_spin.specs.declared.SpinPlace.{SpinPlace}
-pub use Rattle.running_tallies.specs.MutexRule.{no_holds, both_holds, IsHeld, AreGrantsIn, holds}
+pub use Rattle.running_tallies.specs.MutexRule.{no_holds, both_holds, granted, released, AreGrantsIn}
 pub use Rattle.running_tallies.specs.declared.mutex.Holds.{Holds}
 pub use lib.ListN.{get_elem?}

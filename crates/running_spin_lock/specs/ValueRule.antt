@@ -1,5 +1,5 @@
 -- The rule over all passes of a lock that guards a value, and plays a model of one word.
-use Rattle.running_spin_lock.specs.Names.{◌≡◌, ℕ, List, [], ◌∷◌, Option, Some, get_elem?, State, Word, View, spent_view, sum_of, IsCounted, Model, Played, none_played, both_played, core_played, PlaysAndCounts, IsOfARun, Holds, no_holds, both_holds, IsHeld, AreGrantsIn}
+use Rattle.running_spin_lock.specs.Names.{◌≡◌, ℕ, ◌≤◌, List, [], ◌∷◌, length, slice_index, Option, Some, get_elem?, State, Word, View, spent_view, sum_of, IsCounted, Model, Played, none_played, both_played, core_played, PlaysAndCounts, IsOfARun, Holds, no_holds, both_holds, AreGrantsIn}
 use mathlib.Core.Option as maybe
 
 module _ {T : Type 0} where
@@ -14,7 +14,9 @@ module _ {T : Type 0} where
   -- There is one word, the number of holds, of which there is one at most; and one slot. The value is at home exactly where there is no
   -- hold.
   pub record IsGuarding (words : List ℕ) (homes : List (maybe.Option (Option T))) (t : Holds) : Type 0 where
-    pub held : IsHeld words t
+    pub one_word : length words ≡ 1
+    pub word : slice_index words 0 ≡ t.holds
+    pub one : t.holds ≤ 1
     pub home : t.holds ≡ 0 → IsHome homes
     pub out : t.holds ≡ 1 → IsOut homes
 

@@ -1,14 +1,6 @@
 -- What a step on the word of a lock that guards a value tells of the seat that makes it, and what several steps change in what the seat
 -- knows.
-use Rattle.running_spin_lock.specs.Names.{◌≡◌, ◌≢◌, ℕ, ◌+◌, List, [], ◌∷◌, Bool, true, false, ◌==◌, ◌&&◌, Option, Some, None, MatchBool, Me, Call, Answer, HoldKind, Sights, View, IsWhole, HasOnlyRead, HasWritten, view_of, wrote, Model, Played, Coming, HasCalled, Went, counted_in, Holds, holds}
-
--- the hold is turned on, by a grant
-abbrev pub granted : Holds → Holds
-granted t = holds 1 (t.grants + 1)
-
--- the hold is turned off
-abbrev pub released : Holds → Holds
-released t = holds 0 t.grants
+use Rattle.running_spin_lock.specs.Names.{◌≡◌, ◌≢◌, ℕ, List, [], ◌∷◌, Bool, true, false, ◌==◌, ◌&&◌, Option, Some, None, MatchBool, Me, Call, Answer, HoldKind, Sights, View, IsWhole, HasOnlyRead, HasWritten, view_of, wrote, Model, Played, Coming, HasCalled, Went, counted_in, Holds, granted, released}
 
 abbrev pub locked : View Holds → View Holds
 locked v = wrote v (granted v.tally)

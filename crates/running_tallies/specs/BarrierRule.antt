@@ -1,5 +1,5 @@
 -- What a pass of a barrier counts and knows, and the rule over all passes.
-use Rattle.running_tallies.specs.Names.{◌≡◌, ℕ, ◌+◌, ◌-◌, ◌*◌, ◌%◌, ◌^◌, ◌<◌, ◌≤◌, max, List, [], length, slice_index, some, Event, arrivals_in}
+use Rattle.running_tallies.specs.Names.{◌≡◌, ℕ, ◌+◌, ◌-◌, ◌*◌, ◌%◌, ◌^◌, ◌<◌, ◌≤◌, max, List, [], length, slice_index, Event, arrivals_in}
 use Rattle.std.specs.List.{sum}
 use mathlib.Core.Option as maybe
 use Rattle.running_tallies.specs.declared.barrier.Rounds.{Rounds}

@@ -1,6 +1,6 @@
--- What a pass of a mutex counts, and the rule over all passes.
-use Rattle.running_tallies.specs.Names.{◌≡◌, ℕ, ◌+◌, ◌≤◌, List, length, slice_index, some, Event, HoldKind, Table, grants_in}
-use mathlib.Core.Option as maybe
+-- What a pass of a mutex counts, and what all passes count together: what the acts of the run did.
+use Rattle.running_tallies.specs.Names.{◌≡◌, ℕ, ◌+◌, true, List, length, Call, Act, Event, HoldKind, Table, holds_of, grants_in}
+use Rattle.model_mutex.specs.Table.{mutex_table}
 use Rattle.running_tallies.specs.declared.mutex.Holds.{Holds}
 
 abbrev pub holds : ℕ → ℕ → Holds
@@ -12,15 +12,30 @@ no_holds = holds 0 0
 abbrev pub both_holds : Holds → Holds → Holds
 both_holds t u = holds (t.holds + u.holds) (t.grants + u.grants)
 
--- there is one word; it is the number of holds, of which there is one at most
-pub record IsHeld (words : List ℕ) (t : Holds) : Type 0 where
-  pub one_word : length words ≡ 1
-  pub word : slice_index words 0 ≡ t.holds
-  pub one : t.holds ≤ 1
+-- the hold is turned on, by a grant
+abbrev pub granted : Holds → Holds
+granted t = holds 1 (t.grants + 1)
 
-abbrev pub MutexAgrees : List ℕ → List (maybe.Option (Unit {0})) → Holds → Type 0
-MutexAgrees words homes = IsHeld words
+-- the hold is turned off
+abbrev pub released : Holds → Holds
+released t = holds 0 t.grants
+
+-- what an act makes of a tally: an exchange that is done grants, and a store releases
+abbrev pub holds_after : Act ℕ → Call ℕ → Holds → Holds
+holds_after (Act.Exchange word from to found true) call t = granted t
+holds_after (Act.Store word put) call t = released t
+holds_after act call t = t
+
+-- and what it needs of it: only a hold that is on is released
+abbrev pub holds_needed : Act ℕ → Holds → Type 0
+holds_needed (Act.Store word put) t = t.holds ≡ 1
+holds_needed act t = Unit {0}
 
 -- so often was a call granted in the run
 abbrev pub AreGrantsIn : {V P : Type 0} → Table V P → List (Event V) → Holds → Type 0
 AreGrantsIn t past counts = counts.grants ≡ grants_in t HoldKind.Write past
+
+-- and so many holds stand after it
+pub record AreHoldsIn (past : List (Event ℕ)) (t : Holds) : Type 0 where
+  pub holds : t.holds ≡ length (holds_of {T = ℕ} mutex_table past)
+  pub grants : AreGrantsIn mutex_table past t

@@ -1,5 +1,5 @@
 -- The rule over all passes of a reader-preferring lock.
-use Rattle.running_tallies.specs.Names.{◌≡◌, ℕ, List, length, slice_index, some, Event, Table, holds_of, reads_in, writes_in}
+use Rattle.running_tallies.specs.Names.{◌≡◌, ℕ, List, length, slice_index, Event, Table, holds_of, reads_in, writes_in}
 use mathlib.Core.Option as maybe
 use Rattle.running_tallies.specs.declared.held.Held.{Held}
 use Rattle.running_tallies.specs.declared.held.Held.TheVariants.{Free}

@@ -1,7 +1,7 @@
 //! The model that a mutex plays, and what its pass counts beside.
 
 use model_mutex::MutexPlace;
-use running_model::{Counts, Played, Script};
+use running_model::{Counts, CountsByActs, Played, Script};
 use running_passes::{Rule, Tally};
 
 /// The model that a mutex plays: its one word is the lock's.
@@ -47,25 +47,40 @@ impl Tally for Holds {
     ghost adds_up = { holds_add_up };
 }
 
-/// The mutex's word is the number of holds of all passes, at most 1.
+/// The run alone says what all passes count.
 impl Rule<(), ()> for Holds {
-    ghost use Rattle.running_tallies.specs.MutexRule.{no_holds, MutexAgrees};
+    ghost use Rattle.running_tallies.specs.MutexRule.{no_holds};
 
     ghost first = { λ _. no_holds };
 
-    ghost agrees = { λ _. MutexAgrees };
+    ghost agrees = { λ _ _ _ _. Unit {0} };
 }
 
-/// All passes together were granted as often as calls were in the run.
+/// All passes together have as many holds as stand after the run, and were granted as often as calls were in it.
 impl Counts<(), u64> for Holds {
     ghost use Rattle.std.proofs.Common.{refl};
-    ghost use Rattle.model_mutex.specs.Table.{mutex_table};
-    ghost use Rattle.running_tallies.specs.MutexRule.{AreGrantsIn};
-    ghost use Rattle.running_tallies.specs.MutexTally.{grants_stay};
+    ghost use Rattle.running_tallies.specs.MutexRule.{AreHoldsIn};
+    ghost use Rattle.running_tallies.specs.MutexTally.{holds_stay};
 
-    ghost follow = { λ _. AreGrantsIn mutex_table };
+    ghost follow = { λ _. AreHoldsIn };
 
-    ghost stays = { λ _. grants_stay mutex_table };
+    ghost stays = { λ _. holds_stay };
 
-    ghost opens = { λ _. refl };
+    ghost opens = { λ _. record { holds = refl; grants = refl } };
+}
+
+impl CountsByActs<(), MutexScript, MutexPlace, u64> for Holds {
+    ghost use Rattle.running_model.specs.Sees.{sights_after};
+    ghost use Rattle.running_tallies.specs.MutexRule.{holds_after, holds_needed};
+    ghost use Rattle.running_tallies.specs.MutexTally.{holds_go_on};
+
+    ghost free = { λ _ _ _ _. tt };
+
+    ghost sees = { sights_after };
+
+    ghost after = { holds_after };
+
+    ghost needs = { holds_needed };
+
+    ghost goes_on = { λ _. holds_go_on };
 }

@@ -82,5 +82,7 @@ impl CountsByActs<u64, SemaphoreScript, SemaphorePlace, u64> for Permits {
 
     ghost after = { permits_after };
 
+    ghost needs = { λ _ _. Unit {0} };
+
     ghost goes_on = { λ key. permits_go_on (key % 2 ^ 64) };
 }

@@ -83,7 +83,9 @@ impl CountsByActs<(), CounterScript, Intent<u64>, u64> for Nothing {
 
     ghost after = { λ _ _ _. tt };
 
-    ghost goes_on = { λ _ _ _ _ _ _ _ _ _ _ _. tt };
+    ghost needs = { λ _ _. Unit {0} };
+
+    ghost goes_on = { λ _ _ _ _ _ _ _ _ _ _ _ _. tt };
 }
 
 /// A step that tells nothing beside.

@@ -1,12 +1,15 @@
-use Rattle.running_mutex.specs.Names.{parties_of, counted}
-use Rattle.running_mutex.proofs.MutexKeeps.{exchanges, exchange_counts}
+use Rattle.running_model.proofs.Steps.{zero_or_not}
+use Rattle.running_mutex.proofs.MutexKeeps.{tries, tries_alone}
 use Rattle.running_mutex.proofs.Mutex.exchange.Goals as goal
 
-pub exchange_by-found-requires-clause-may : goal.exchange_by-found-requires-clause-may
-exchange_by-found-requires-clause-may g c = c.requires.may _ c.locked.ensures
+pub exchange-found-requires-clause-may : goal.exchange-found-requires-clause-may
+exchange-found-requires-clause-may g c = c.requires.may _ c.locked.ensures
 
-pub exchange_by-found-requires-clause-update : goal.exchange_by-found-requires-clause-update
-exchange_by-found-requires-clause-update g c = exchanges _ _ c.locked.ensures
+pub returns-clause-locked : goal.returns-clause-locked
+returns-clause-locked g c = tries _ _ _ c.args.turn.pass.now (c.requires.may _ c.locked.ensures) c.exchange-found.result.1.pass.now c.exchange-found.ensures.same c.exchange-found.ensures.beside c.exchange-found.ensures.told
 
-pub exchange_by-found-requires-clause-follow : goal.exchange_by-found-requires-clause-follow
-exchange_by-found-requires-clause-follow g c = exchange_counts g.W.Way.coming (parties_of c.args.turn.pass.now) (counted c.args.turn.pass.now) _
+pub returns-clause-tried : goal.returns-clause-tried
+returns-clause-tried g c = (c.exchange-found.result.0, zero_or_not _, c.exchange-found.ensures.went)
+
+pub returns-clause-exact : goal.returns-clause-exact
+returns-clause-exact g c = λ alone. tries_alone _ _ _ c.args.turn.pass.now (c.requires.may _ c.locked.ensures) (c.exchange-found.ensures.alone alone.0) alone.1

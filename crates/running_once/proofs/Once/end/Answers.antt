@@ -1,13 +1,15 @@
-use Rattle.running_once.specs.Names.{Aside, parties_of, counted}
-use Rattle.running_once.proofs.OnceCounts.{store_counts}
+use Rattle.running_once.proofs.OnceKeeps.{ends}
 use Rattle.running_once.proofs.OncePlays.{may_complete, completes}
 use Rattle.running_once.proofs.Once.end.Goals as goal
 
-pub store_by-requires-clause-may : goal.store_by-requires-clause-may
-store_by-requires-clause-may g c = may_complete c.requires.runs.0 _ c.requires.runs.1
+pub store-requires-clause-may : goal.store-requires-clause-may
+store-requires-clause-may g c = may_complete c.requires.runs.0 _ c.requires.runs.1
 
-pub store_by-requires-clause-follow : goal.store_by-requires-clause-follow
-store_by-requires-clause-follow g c = store_counts Aside (parties_of c.args.turn.pass.now) (counted c.args.turn.pass.now) c.requires.on
+pub store-requires-clause-needs : goal.store-requires-clause-needs
+store-requires-clause-needs g c = λ name found. c.requires.on
+
+pub returns-clause-ended : goal.returns-clause-ended
+returns-clause-ended g c = ends _ c.args.turn.pass.now c.store.result.pass.now (may_complete c.requires.runs.0 _ c.requires.runs.1) c.store.ensures.same c.store.ensures.told
 
 pub returns-clause-left : goal.returns-clause-left
-returns-clause-left g c = λ done at. completes done _ _ at c.store_by.ensures.went
+returns-clause-left g c = λ done at. completes done _ _ at c.store.ensures.went

@@ -1,6 +1,5 @@
-use Rattle.running_once.specs.Names.{parties_of, counted}
-use Rattle.running_once.proofs.OnceCounts.{load_counts}
+use Rattle.running_once.proofs.OnceKeeps.{loads}
 use Rattle.running_once.proofs.Once.look.Goals as goal
 
-pub load_by-requires-clause-follow : goal.load_by-requires-clause-follow
-load_by-requires-clause-follow g c = load_counts g.W.Way.coming (parties_of c.args.turn.pass.now) (counted c.args.turn.pass.now)
+pub returns-clause-told : goal.returns-clause-told
+returns-clause-told g c = loads _ _ c.args.turn.pass.now c.load.result.1.pass.now c.requires.may c.load.ensures.beside c.load.ensures.alone c.load.ensures.told

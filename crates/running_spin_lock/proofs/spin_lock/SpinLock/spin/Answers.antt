@@ -1,4 +1,4 @@
-use Rattle.running_spin_lock.proofs.Names.{true, false, ◌∙◌, MatchBool-at_true, MatchBool-at_false}
+use Rattle.running_spin_lock.proofs.Names.{◌∙◌, MatchBool-at_true, MatchBool-at_false}
 use Rattle.running_spin_lock.proofs.SpinSights.{sees_on}
 use Rattle.running_spin_lock.proofs.SpinPlays.{may_spin, spin_goes}
 use Rattle.running_spin_lock.proofs.spin_lock.SpinLock.spin.Goals as goal

@@ -1,7 +1,8 @@
-use Rattle.running_spin_lock.proofs.Names.{rules, refl}
+use Rattle.running_spin_lock.proofs.Names.{refl}
 use Rattle.running_spin_lock.specs.SpinLawful.{spin_model, spin_lawful}
 use Rattle.running_spin_lock.proofs.SpinPlays.{one_stays, swap_grants}
-use Rattle.running_spin_lock.proofs.ValueKeeps.{tries, zero_or_not}
+use Rattle.running_model.proofs.Steps.{zero_or_not}
+use Rattle.running_spin_lock.proofs.ValueKeeps.{tries}
 use Rattle.running_spin_lock.proofs.spin_lock.SpinLock.swap.Goals as goal
 
 pub swap-found-requires-clause-update : goal.swap-found-requires-clause-update
