@@ -1,7 +1,7 @@
 -- Each step of the lock, as a fact of its word, the data words and the holds.
 use Rattle.running_atomic.specs.Names.{Held, Free, Reading, Writing, Torn, TellsSame, both_held, read_holds, write_holds, Locks}
 use Rattle.running_atomic.proofs.Names.{◌≡◌, ℕ, ◌+◌, ◌-◌, ◌%◌, ◌^◌, ◌<◌, Bool, sym, refl, ap, ◌∙◌, subst, arith}
-use Rattle.running_tallies.proofs.HeldKeeps.{is_free, only_reads, parts, comes_in, goes_out, takes_over}
+use Rattle.running_tallies.specs.HeldKeeps.{is_free, only_reads, parts, comes_in, goes_out, takes_over}
 use Rattle.running_atomic.specs.AtomicRule.{register_of}
 
 -- where nobody writes, the register is what the data words are

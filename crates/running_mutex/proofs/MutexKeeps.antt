@@ -9,11 +9,11 @@ use Rattle.model_events.specs.Rows.{carried_out}
 use Rattle.model_events.specs.Runs.{IsPast}
 use Rattle.model_events.proofs.Parties.{at_place}
 use Rattle.model_mutex.proofs.Laws.{AtMutex, mutex_kept}
-use Rattle.running_mutex.specs.Names.{MatchBool, Word, Call, HoldKind, Intent, MutexPlace, mutex_table, mutex_intent, mutex_model, length, Coming, IsStepAt, MayStep, WentAlone, IsSamePass, counts_of, parties_of, counted, view_of, missed, sum_of, no_holds, both_holds, holds_after, AreHoldsIn, none_played, both_played, core_played, played_add_up, IsShare, Told, act_at, sights_after}
-use Rattle.running_mutex.proofs.Names.{◌≡◌, ℕ, ◌≤◌, ◌==◌, Bool, true, false, cond, List, [], ◌∷◌, Option, Some, refl, ap, sym, subst, ◌∙◌, arith}
+use Rattle.running_mutex.specs.Names.{MatchBool, Word, Call, HoldKind, Intent, MutexPlace, mutex_table, mutex_intent, mutex_model, length, Coming, IsStepAt, MayStep, WentAlone, IsSamePass, counts_of, parties_of, counted, missed, sum_of, no_holds, both_holds, holds_after, AreHoldsIn, none_played, both_played, core_played, played_add_up, IsShare, Told, act_at, sights_after}
+use Rattle.running_mutex.proofs.Names.{◌≡◌, ℕ, ◌≤◌, ◌==◌, true, cond, List, [], ◌∷◌, Option, Some, refl, ap, sym, subst, ◌∙◌, arith}
 use Rattle.running_model.specs.Sums.{grants_by}
 use Rattle.running_model.proofs.OfARun.{of_a_run}
-use Rattle.running_model.proofs.Steps.{told_so, found_there}
+use Rattle.running_model.proofs.Steps.{told_so, found_there, done_so, missed_so, by_zero}
 use Rattle.running_model.proofs.Words.{hold_at}
 use mathlib.Core.Logic.{dite}
 use native.Mathlib.Decide.{ℕ_discrete}
@@ -38,13 +38,10 @@ module _ (way : Coming ℕ) (put found : ℕ) (p : MutexPass) (may : MayStep mut
       let s = share.beside may.call may.place may.hold may.done may.comes in
       let held = held_there s.parties s.past s.run s.found_is in
       let all = s.says.holds in
-      by_test (found == 0) refl (λ free. omega (arith, all, held.0, free)) held.1
-      (told_so _ _ _ _ (λ k. Intent.Exchange k 0 put) (parties_of p) may Word.State may.named found sights_after holds_after (counted p) (counted q) told)
-    where
-      by_test : (b : Bool) → (found == 0) ≡ b → (found ≡ 0 → holds_of_pass p ≡ 0) → found ≤ 1 →
-          counted q ≡ view_of (counted p).part (sights_after {V = ℕ} (Act.Exchange Word.State 0 put found b) (counted p).sights) (holds_after (Act.Exchange Word.State 0 put found b) may.call (counts_of p)) → MatchBool b (HasLocked p q) (HasSeenLocked p q)
-      by_test true test off one is = (same, off (eqb-true found 0 test), is)
-      by_test false test off one is = let other = eqb-false found 0 test in let is_1 : found ≡ 1 = omega (arith, one, other) in (same, is ∙ ap (missed (counted p) 0) is_1)
+      by_zero found (HasLocked p q) (HasSeenLocked p q)
+      (λ free. (same, omega (arith, all, held.0, free), done_so _ _ _ _ 0 put (parties_of p) may Word.State may.named found holds_after (counted p) (counted q) told free))
+      (λ other. let is_1 : found ≡ 1 = omega (arith, held.1, other) in
+      (same, missed_so _ _ _ _ 0 put (parties_of p) may Word.State may.named found holds_after (counted p) (counted q) told other ∙ ap (missed (counted p) 0) is_1))
 
   -- where no other pass is left, only its own can be on
   pub tries_alone : WentAlone mutex_model (λ past. AreHoldsIn past (counts_of p)) way (parties_of p) found → holds_of_pass p ≡ 0 → (found == 0) ≡ true

@@ -1,6 +1,5 @@
 pub mod Names
 pub mod RwReaderKeeps
-pub mod RwReaderCounts
 pub mod RwReaderTries
 pub mod RwReaderPlays
 pub mod RwReaderUnlocks

@@ -5,4 +5,4 @@ pub use Rattle.running_rw_hold.proofs.RwTries.{seen_once, looked_at, last_seen, 
 pub use Rattle.std.proofs.Common.{◌≡◌, [], ◌∷◌, sym, subst, ap, ◌∙◌, ◌≢◌, ◌-◌, ◌^◌, ℕ, true, refl, arith, Some, None, ◌==◌, MatchBool, ◌<◌, ◌+◌, ◌%◌, Bool, false, List, Option, inl, inr, eqb, get_or, set, length-set, get_or-set_same, ◌≤◌, cond}
 pub use Rattle.std.proofs.lemmas.Bool.{MatchBool-at_true, eqb-true, eqb-false, ne_eqb}
 pub use Rattle.model_events.proofs.Holds.{eqb_same}
-pub use Rattle.running_tallies.proofs.HeldKeeps.{comes_in, goes_out, takes_over, steps_down, word_alone, parts, only_writes}
+pub use Rattle.running_tallies.specs.HeldKeeps.{comes_in, goes_out, takes_over, steps_down, word_alone, parts, only_writes}

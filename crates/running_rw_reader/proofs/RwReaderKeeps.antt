@@ -1,104 +1,118 @@
--- Each step of a reader-preferring lock keeps its rule.
-use Rattle.running_rw_reader.specs.Names.{View, looked, missed, wrote, Updates, none_played, both_played, core_played, played_add_up, Free, read_holds, write_holds, Locks, same_nothing, tells_same_nothing, held_adds_up, Holds, no_holds, both_holds, IsHeld, RwReaderAgrees}
-use Rattle.running_rw_reader.proofs.Names.{◌≡◌, ℕ, ◌+◌, ◌-◌, ◌%◌, ◌^◌, ◌<◌, eqb, List, get_or, set, refl, sym, ap, ◌∙◌, subst, arith, length-set, get_or-set_same, comes_in, goes_out, takes_over, steps_down, word_alone, parts, only_writes}
+-- What a step makes of what a pass saw and counts, and what the run says of it.
+use Rattle.running_rw_reader.specs.Names.{Word, Intent, rw_reader_table, rw_reader_model, Coming, MayStep, WentAlone, View, IsWhole, IsSamePass, part_of, parties_of, counts_of, counted, wrote, sum_of, none_played, both_played, core_played, played_add_up, IsShare, Told, Free, read_holds, write_holds, Locks, same_nothing, tells_same_nothing, held_adds_up, Holds, no_holds, both_holds, read, written, held_after, AreHoldsIn}
+use Rattle.running_rw_reader.proofs.Names.{◌≡◌, ◌≢◌, ℕ, ◌+◌, ◌-◌, ◌^◌, ◌<◌, ◌==◌, Bool, cond, [], ◌∷◌, Some, get_or, refl, sym, ap, ◌∙◌, subst, arith, ne_eqb, comes_in, goes_out, takes_over, parts, only_writes}
 use mathlib.Core.Logic.{dite}
 use native.Mathlib.Decide.{ℕ_discrete}
-use prog.Atomic.{either}
+use Rattle.model_events.specs.Past.{holds_of, word_in}
+use Rattle.model_events.specs.Rows.{carried_out, value_told}
+use Rattle.model_rw_reader.specs.Law.{CountsHolds}
 use Rattle.running_passes.proofs.Sums.{sum_of_two}
-use Rattle.running_passes.proofs.Updates.{by_look, by_exchange}
-use Rattle.running_rw_reader.specs.RwReaderSteps.{NoHoldBesideAWriteHold, word_of, read, no_more_read, written, Loaded, ReaderIn, ReaderOut, WriterIn, WriterOut}
+use Rattle.running_model.specs.Counts.{HasSeen, HasMissed, HasDone}
+use Rattle.running_model.specs.Sees.{sights_after}
+use Rattle.running_model.proofs.OfARun.{of_a_run}
+use Rattle.running_model.proofs.Steps.{told_so, found_there, done_so, missed_so}
+use Rattle.running_model.proofs.Words.{hold_at}
+use Rattle.running_tallies.specs.RwReaderTally.{locks}
+use Rattle.running_rw_reader.specs.RwReaderShown.{RwReaderPass, reads_of, writes_of, HasLeftReading, HasLeftWriting}
+use Rattle.running_rw_reader.specs.RwReaderSteps.{HoldsAreOfARun, NoHoldBesideAWriteHold, word_of}
 
--- the word is written, and is what all holds come to again
-held_again : (words : List ℕ) (n : ℕ) (t u : Holds) → IsHeld words t → Locks n tt u → IsHeld (set words 0 n) u
-held_again words n t u is locks = record {
-  one_word = length-set words 0 n ∙ is.one_word;
-  locks = subst (λ m. Locks m tt u) (sym (get_or-set_same words 0 n 0 (omega (arith, is.one_word)))) locks;
-}
+-- with what the others count
+abbrev pub Share : Coming ℕ → ℕ → RwReaderPass → Type 0
+Share way found p = IsShare rw_reader_model both_holds (AreHoldsIn rw_reader_table) way (parties_of p) found (counts_of p)
 
--- where no other pass is left, the word is what the tally comes to
-alone_is : (words : List ℕ) (t rest : Holds) → IsHeld words (both_holds t rest) → rest ≡ no_holds → get_or words 0 0 ≡ word_of t
-alone_is words t rest is blank = (word_alone same_nothing tells_same_nothing tt (get_or words 0 0) t rest is.locks blank).word_is
+-- or where there are no others
+abbrev pub Alone : Coming ℕ → ℕ → RwReaderPass → Type 0
+Alone way found p = IsWhole (part_of p) → WentAlone rw_reader_model (λ past. AreHoldsIn rw_reader_table past (counts_of p)) way (parties_of p) found
 
-pub loads : (v : View Holds) → Updates no_holds both_holds RwReaderAgrees v 0 (λ x. x) (Loaded v)
-loads v = by_look no_holds both_holds RwReaderAgrees v 0 (Loaded v) (λ words homes rest is alone fits. (
-  looked v (get_or words 0 0),
-  refl,
-  is,
-  record { saw = refl; alone = λ whole. alone_is words v.tally rest is (alone whole) },
-))
+abbrev pub ToldOf : Coming ℕ → ℕ → RwReaderPass → RwReaderPass → Type 0
+ToldOf way found p q = Told rw_reader_model sights_after held_after way (parties_of p) found (counted p) (counted q)
 
-pub readers_in : (v : View Holds) (old new : ℕ) → old < 2 ^ 64 - 2 → new ≡ old + 1 → Updates no_holds both_holds RwReaderAgrees v 0 (λ x. either (eqb x old) new x) (ReaderIn old v)
-readers_in v old new room more = by_exchange no_holds both_holds RwReaderAgrees v 0 old new (ReaderIn old v)
-    (λ words homes rest is alone fits hit.
-    let x : ℕ = get_or words 0 0 in
-    let step = comes_in same_nothing tells_same_nothing tt x v.tally rest is.locks (omega (arith, hit, room)) in (
-      wrote v (read v.tally),
-      refl,
-      held_again words new (both_holds v.tally rest) (both_holds (read v.tally) rest) is (subst (λ n. Locks n tt (both_holds (read v.tally) rest)) (omega (arith, hit, more)) step.locks),
-      record {
-        done = λ _. refl;
-        reads = λ _. step.reads;
-        writes = λ _. (step.no_writer, step.still_none);
-        failed = λ miss. absurd (miss hit);
-        alone = λ whole. alone_is words v.tally rest is (alone whole);
-      },
-    ))
-    (λ words homes rest is alone fits miss. (
-      missed v old (get_or words 0 0),
-      refl,
-      is,
-      record {
-        done = λ hit. absurd (miss hit);
-        reads = λ hit. absurd (miss hit);
-        writes = λ hit. absurd (miss hit);
-        failed = λ _. refl;
-        alone = λ whole. alone_is words v.tally rest is (alone whole);
-      },
-    ))
+module _ (way : Coming ℕ) (intent : Word → Intent ℕ) (found : ℕ) (p : RwReaderPass) (may : MayStep rw_reader_model (Word.State ∷ []) way 0 intent (parties_of p)) where
+  -- the word is what all holds come to
+  beside : Share way found p → (rest : Holds) × (w : ℕ) × Locks w tt (both_holds (counts_of p) rest)
+  beside share = let s = share.beside may.call may.place may.hold may.done may.comes in
+      (share.rest, word_in rw_reader_table s.past Word.State, locks _ (holds_of rw_reader_table s.past) (both_holds (counts_of p) share.rest) s.law.law.counts s.says.reads s.says.writes)
 
-pub readers_out : (v : View Holds) → 0 < read_holds v.tally → Updates no_holds both_holds RwReaderAgrees v 0 (λ x. (x + (2 ^ 64 - 1)) % 2 ^ 64) (λ _. ReaderOut v)
-readers_out v some = record {
-  may = λ words homes rest is alone fits.
-      let x : ℕ = get_or words 0 0 in
-      let step = goes_out same_nothing tells_same_nothing tt x v.tally rest is.locks some in
-      let left : ℕ = (x + (2 ^ 64 - 1)) % 2 ^ 64 in (
-        wrote v (no_more_read v.tally),
-        refl,
-        held_again words left (both_holds v.tally rest) (both_holds (no_more_read v.tally) rest) is
-            (subst (λ n. Locks n tt (both_holds (no_more_read v.tally) rest)) (omega (arith, fits, step.some)) step.locks),
-        record { done = refl; reads = step.reads; writes = (step.no_writer, step.still_none) },
-      );
-}
+  module _ (tells : (w : Word) (memory : Word → ℕ) → value_told (carried_out (intent w) memory) ≡ Some (memory w)) where
+    -- and so is what was found
+    found_beside : Share way found p → (rest : Holds) × Locks found tt (both_holds (counts_of p) rest)
+    found_beside share = let s = share.beside may.call may.place may.hold may.done may.comes in (
+      share.rest,
+      locks found (holds_of rw_reader_table s.past) (both_holds (counts_of p) share.rest)
+          (subst (λ n. CountsHolds n (holds_of rw_reader_table s.past)) (sym (found_there _ _ _ _ intent (parties_of p) may Word.State may.named found tells (word_in rw_reader_table s.past) s.found_is)) s.law.law.counts) s.says.reads s.says.writes,
+    )
 
-pub writers_in : (v : View Holds) (new : ℕ) → new ≡ 2 ^ 64 - 1 → Updates no_holds both_holds RwReaderAgrees v 0 (λ x. either (eqb x 0) new x) (WriterIn v)
-writers_in v new all = by_exchange no_holds both_holds RwReaderAgrees v 0 0 new (WriterIn v)
-    (λ words homes rest is alone fits hit.
-    let step = takes_over same_nothing tells_same_nothing tt (get_or words 0 0) v.tally rest is.locks hit in (
-      wrote v written,
-      refl,
-      held_again words new (both_holds v.tally rest) (both_holds written rest) is (subst (λ n. Locks n tt (both_holds written rest)) (sym all) step.locks),
-      record { done = λ _. (step.off, refl); failed = λ miss. absurd (miss hit); alone = λ whole. alone_is words v.tally rest is (alone whole) },
-    ))
-    (λ words homes rest is alone fits miss. (
-      missed v 0 (get_or words 0 0),
-      refl,
-      is,
-      record { done = λ hit. absurd (miss hit); failed = λ _. refl; alone = λ whole. alone_is words v.tally rest is (alone whole) },
-    ))
+    found_alone : Alone way found p → IsWhole (part_of p) → found ≡ word_of (counts_of p)
+    found_alone went whole = let s = went whole may.call may.place may.hold may.done may.comes in
+        found_there _ _ _ _ intent (parties_of p) may Word.State may.named found tells (word_in rw_reader_table s.past) s.found_is
+        ∙ (locks _ (holds_of rw_reader_table s.past) (counts_of p) s.law.law.counts s.says.reads s.says.writes).word_is
 
--- a pass that writes does not read
-writer_reads : (t rest : Holds) {word : ℕ} → Locks word tt (both_holds t rest) → write_holds t ≡ 1 → read_holds t ≡ 0
-writer_reads t rest is on = only_writes tt t (parts same_nothing tells_same_nothing tt t rest is.knows).first on
+pub looks_alone : (way : Coming ℕ) (found : ℕ) (p : RwReaderPass) → MayStep rw_reader_model (Word.State ∷ []) way 0 (λ k. Intent.Load k) (parties_of p) → Alone way found p → IsWhole (part_of p) → found ≡ word_of (counts_of p)
+looks_alone way found p may = found_alone way (λ k. Intent.Load k) found p may (λ w memory. refl)
 
-pub writers_out : (v : View Holds) → write_holds v.tally ≡ 1 → Updates no_holds both_holds RwReaderAgrees v 0 (λ _. 0) (λ _. WriterOut v)
-writers_out v on = record {
-  may = λ words homes rest is alone fits. (
-    wrote v no_holds,
-    refl,
-    held_again words 0 (both_holds v.tally rest) (both_holds no_holds rest) is (steps_down same_nothing tells_same_nothing tt (get_or words 0 0) v.tally rest is.locks on),
-    record { done = refl; reads = writer_reads v.tally rest is.locks on },
-  );
-}
+pub loads : (way : Coming ℕ) (found : ℕ) (p q : RwReaderPass) → MayStep rw_reader_model (Word.State ∷ []) way 0 (λ k. Intent.Load k) (parties_of p) → IsSamePass p q → ToldOf way found p q → HasSeen found p q
+loads way found p q may same told = (same, told_so _ _ _ _ (λ k. Intent.Load k) (parties_of p) may Word.State may.named found sights_after held_after (counted p) (counted q) told)
+
+-- An exchange of a value for another.
+module _ (way : Coming ℕ) (from to found : ℕ) (p q : RwReaderPass) (may : MayStep rw_reader_model (Word.State ∷ []) way 0 (λ k. Intent.Exchange k from to) (parties_of p)) where
+  pub misses : IsSamePass p q → ToldOf way found p q → found ≢ from → HasMissed from found p q
+  misses same told miss = (same, missed_so _ _ _ _ from to (parties_of p) may Word.State may.named found held_after (counted p) (counted q) told miss)
+
+  pub exchanges_alone : Alone way found p → IsWhole (part_of p) → found ≡ word_of (counts_of p)
+  exchanges_alone = found_alone way (λ k. Intent.Exchange k from to) found p may (λ w memory. refl)
+
+  -- for one more: it turned a read hold on, where no write hold stood
+  pub reads_on : to ≡ from + 1 → from < 2 ^ 64 - 2 → IsSamePass p q → ToldOf way found p q → found ≡ from → HasDone read p q
+  reads_on more room same told hit = (
+    same,
+    done_so _ _ _ _ from to (parties_of p) may Word.State may.named found held_after (counted p) (counted q) told hit
+        ∙ ap (λ (b : Bool). wrote (counted p) (cond b written (read (counts_of p)))) (ne_eqb to (2 ^ 64 - 1) (λ full. absurd (omega (arith, full, more, room)))),
+  )
+
+  pub one_more : to ≡ from + 1 → from < 2 ^ 64 - 2 → Share way found p → HasDone read p q → found ≡ from → (reads_of q ≡ reads_of p + 1) × ((writes_of p ≡ 0) × (writes_of q ≡ 0))
+  one_more more room share done hit =
+      let all = found_beside way (λ k. Intent.Exchange k from to) found p may (λ w memory. refl) share in
+      let enters = comes_in same_nothing tells_same_nothing tt found (counts_of p) all.0 all.1 (omega (arith, hit, room)) in
+      let now = ap (λ (v : View Holds). v.tally) done.1 in
+      (ap read_holds now ∙ enters.reads, (enters.no_writer, ap write_holds now ∙ enters.still_none))
+
+  -- of 0 for 2 ^ 64 - 1: it turned the write hold on, where the pass had no hold
+  pub writes_on : to ≡ 2 ^ 64 - 1 → IsSamePass p q → ToldOf way found p q → found ≡ from → HasDone (λ _. written) p q
+  writes_on full same told hit = (
+    same,
+    done_so _ _ _ _ from to (parties_of p) may Word.State may.named found held_after (counted p) (counted q) told hit
+        ∙ ap (λ (n : ℕ). wrote (counted p) (cond (n == 2 ^ 64 - 1) written (read (counts_of p)))) full,
+  )
+
+  pub was_free : Share way found p → found ≡ 0 → counts_of p ≡ no_holds
+  was_free share free = let all = found_beside way (λ k. Intent.Exchange k from to) found p may (λ w memory. refl) share in (takes_over same_nothing tells_same_nothing tt found (counts_of p) all.0 all.1 free).off
+
+-- a subtraction of 1, by a pass with a read hold
+pub readers_out : (way : Coming ℕ) (found : ℕ) (p q : RwReaderPass) → MayStep rw_reader_model (Word.State ∷ []) way 0 (λ k. Intent.Subtract k 1) (parties_of p) → IsSamePass p q → Share way found p → ToldOf way found p q → 0 < reads_of p → HasLeftReading p q
+readers_out way found p q may same share told some =
+    let all = beside way (λ k. Intent.Subtract k 1) found p may share in
+    let leaves = goes_out same_nothing tells_same_nothing tt all.1 (counts_of p) all.0 all.2 some in
+    let done = told_so _ _ _ _ (λ k. Intent.Subtract k 1) (parties_of p) may Word.State may.named found sights_after held_after (counted p) (counted q) told in
+    let now = ap (λ (v : View Holds). v.tally) done in
+    record { same = same; reads = ap (λ (t : Holds). read_holds t + 1) now ∙ leaves.reads; writes = (leaves.no_writer, ap write_holds now ∙ leaves.still_none); done = done }
+
+-- a store of 0, by the pass with the write hold
+pub writers_out : (way : Coming ℕ) (p q : RwReaderPass) → MayStep rw_reader_model (Word.State ∷ []) way 0 (λ k. Intent.Store k 0) (parties_of p) → IsSamePass p q → Share way 0 p → ToldOf way 0 p q → writes_of p ≡ 1 → HasLeftWriting p q
+writers_out way p q may same share told on =
+    let all = beside way (λ k. Intent.Store k 0) 0 p may share in
+    let done = told_so _ _ _ _ (λ k. Intent.Store k 0) (parties_of p) may Word.State may.named 0 sights_after held_after (counted p) (counted q) told in
+    let now = ap (λ (v : View Holds). v.tally) done in
+    record { same = same; on = (only_writes tt (counts_of p) (parts same_nothing tells_same_nothing tt (counts_of p) all.0 all.2.knows).first on, on); off = (ap read_holds now, ap write_holds now); done = done }
+
+-- Whenever the rule holds.
+
+pub holds_are_of_a_run : HoldsAreOfARun
+holds_are_of_a_run s r =
+    let all = sum_of (none_played no_holds) (both_played both_holds) s.views in record {
+      run = of_a_run rw_reader_model (Word.State ∷ []) (λ _ _ _. Unit {0}) (AreHoldsIn rw_reader_table) s.words s.homes all r.agree;
+      locks = subst (λ n. Locks n tt all.counts) (sym (hold_at (Word.State ∷ []) s.words 0 Word.State _ r.agree.played.hold refl))
+          (locks _ (holds_of rw_reader_table r.agree.played.past) all.counts r.agree.played.law.law.counts r.agree.follows.reads r.agree.follows.writes);
+    }
 
 -- beside a write hold the others have none
 pub none_beside : NoHoldBesideAWriteHold
@@ -106,7 +120,7 @@ none_beside s r i j v w here there writes some = dite (ℕ_discrete i j) (λ sam
     (λ apart.
     let two = sum_of_two (none_played no_holds) (both_played both_holds) (core_played (λ _. Free)) (played_add_up no_holds both_holds (λ _. Free) (held_adds_up same_nothing tells_same_nothing)) s.views i j v w here there apart in
     let rest : Holds = two.0.counts in
-    let all : Locks (get_or s.words 0 0) tt (both_holds v.tally.counts (both_holds w.tally.counts rest)) = subst (λ t. Locks (get_or s.words 0 0) tt t) (ap (λ t. t.counts) two.1) r.agree.agrees.locks in
+    let all : Locks (get_or s.words 0 0) tt (both_holds v.tally.counts (both_holds w.tally.counts rest)) = subst (λ t. Locks (get_or s.words 0 0) tt t) (ap (λ t. t.counts) two.1) (holds_are_of_a_run s r).locks in
     let mine = parts same_nothing tells_same_nothing tt v.tally.counts (both_holds w.tally.counts rest) all.knows in
     let others : Locks 0 tt (both_holds w.tally.counts rest) = subst (λ t. Locks 0 tt t) (sym (mine.alone writes)) (record { word_is = omega arith; room = omega arith; knows = tt }) in
     let theirs = parts same_nothing tells_same_nothing tt w.tally.counts rest others.knows in

@@ -1,7 +1,7 @@
 -- What the sights and exchanges of a call at a reader-preferring lock come to.
-use Rattle.running_rw_reader.specs.Names.{View, IsWhole, part_of, sights_of, looked, wrote, counts_of, counted, HasSeen, HasMissed, HasDone, HasOnlySeen, WasRefused, WasRefusedAt, Holds}
+use Rattle.running_rw_reader.specs.Names.{View, IsWhole, part_of, sights_of, looked, wrote, counts_of, counted, HasSeen, HasMissed, HasDone, HasOnlySeen, WasRefused, WasRefusedAt, Holds, read}
 use Rattle.running_rw_reader.proofs.Names.{◌≡◌, ◌≢◌, ℕ, ◌+◌, ◌-◌, ◌^◌, ◌<◌, ◌≤◌, ◌==◌, Bool, true, false, MatchBool, refl, sym, ap, subst, ◌∙◌, arith, eqb-true, eqb-false, eqb_same, seen_twice, moved_later, last_seen, last_kept, seen_once, moved_after, overtaken}
-use Rattle.running_rw_reader.specs.RwReaderSteps.{read, word_of}
+use Rattle.running_rw_reader.specs.RwReaderSteps.{word_of}
 use Rattle.running_rw_reader.specs.RwReaderShown.{RwReaderPass, IsAlone, IsTaken, IsShut, EntersToRead, HasEnteredToRead, HasReadAtOnce, HasSeenTaken, WasTurnedAway, reads_of, writes_of}
 
 -- Where no other pass is left, the value is the one that the pass's holds come to.

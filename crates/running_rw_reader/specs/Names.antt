@@ -4,8 +4,8 @@ pub use Rattle.running_passes.specs.Passes.{IsSamePass, part_of, sights_of}
 pub use Rattle.running_passes.specs.Views.{looked, missed, wrote, sum_of, IsCounted, Updates}
 pub use Rattle.running_passes.specs.declared.view.View.{View}
 pub use Rattle.running_model.specs.Counts.{HasOnlySeen, HasMoved, HasSeen, WasRefused, HasGivenUp, HasMissed, HasDone, WasRefusedAt}
-pub use Rattle.running_model.specs.Passes.{parties_of, counts_of as tally_of, counted, none_played, both_played, PlaysAndCounts, IsOfARun, counts_of, GoesOnCounting, core_played, played_add_up}
-pub use Rattle.running_model.specs.Plays.{Coming, IsAt, Leads, IsHolding, HasCalled, Going, Beginning, MayStep, Went, Continuing, IsStepAt, ComesBy, Led, HasEnded}
+pub use Rattle.running_model.specs.Passes.{parties_of, counts_of as tally_of, counted, none_played, both_played, PlaysAndCounts, IsOfARun, counts_of, IsShare, Told, core_played, played_add_up}
+pub use Rattle.running_model.specs.Plays.{Coming, IsAt, Leads, IsHolding, HasCalled, Going, Beginning, MayStep, Went, WentAlone, Continuing, IsStepAt, ComesBy, Led, HasEnded}
 pub use Rattle.running_model.specs.Slots.{Slot, Parties, all_of}
 pub use Rattle.running_model.specs.Tries.{Tried, spun, IsRefused, IsGranted, MayTry, IsToWake}
 pub use Rattle.running_model.specs.Words.{IsNamed}
@@ -23,6 +23,6 @@ pub use Rattle.model_rw_reader.specs.Table.{rw_reader_table, try_read_look, read
 pub use Rattle.model_rw_reader.specs.declared.RwReaderPlace.{RwReaderPlace}
 pub use Rattle.running_tallies.specs.Held.{read_holds, write_holds, reader_in, reader_out, Knows, Locks}
 pub use Rattle.running_tallies.specs.HeldTally.{same_nothing, tells_same_nothing, held_adds_up}
-pub use Rattle.running_tallies.specs.RwReaderRule.{Holds, no_holds, RwReaderAgrees, AreHoldsIn, both_holds, IsHeld}
-pub use Rattle.running_tallies.specs.RwReaderScript.{rw_reader_model, rw_reader_lawful}
+pub use Rattle.running_tallies.specs.RwReaderRule.{Holds, no_holds, read, no_more_read, written, held_after, AreHoldsIn, both_holds}
+pub use Rattle.running_tallies.specs.RwReaderScript.{rw_reader_model}
 pub use Rattle.running_tallies.specs.declared.held.Held.TheVariants.{Writing, Free, Reading, Torn}

@@ -1,12 +1,12 @@
 -- What contracts see of a reader-preferring lock and its pass, and what a call changes in a pass.
-use Rattle.running_rw_reader.specs.Names.{◌≡◌, ◌≢◌, ℕ, ◌+◌, ◌-◌, ◌^◌, ◌<◌, ◌≤◌, Option, Call, Answer, HoldKind, rw_reader_model, IsWhole, IsSamePass, part_of, sights_of, looked, missed, wrote, HasCalled, parties_of, tally_of, counted, HasOnlySeen, HasMoved, Ghosts, RwHold, read_holds, write_holds, Holds, no_holds}
+use Rattle.running_rw_reader.specs.Names.{◌≡◌, ◌≢◌, ℕ, ◌+◌, ◌-◌, ◌^◌, ◌<◌, ◌≤◌, Option, Call, Answer, HoldKind, rw_reader_model, IsWhole, IsSamePass, part_of, sights_of, looked, missed, wrote, HasCalled, parties_of, tally_of, counted, HasOnlySeen, HasMoved, Ghosts, RwHold, read_holds, write_holds, Holds, no_holds, read, no_more_read, written}
 use Rattle.running_passes.specs.declared.part.Part.{Part}
 use Rattle.running_passes.specs.declared.pass.Pass.{Pass}
 use Rattle.running_model.specs.Stages.{IsPassOf}
 use Rattle.running_rw_reader.specs.declared.RwLockReaderPreference.{RwLockReaderPreference}
 use Rattle.running_rw_hold.specs.RwShown.{IsReadHold, IsWriteHold, kind_of, pass_of, TurnsAway}
 use Rattle.running_rw_reader.specs.RwReaderParties.{Unlocks}
-use Rattle.running_rw_reader.specs.RwReaderSteps.{PlayedRwReader, word_of, read, no_more_read, written}
+use Rattle.running_rw_reader.specs.RwReaderSteps.{PlayedRwReader, word_of}
 
 -- the pass of a reader-preferring lock
 abbrev pub RwReaderPass : Type 0

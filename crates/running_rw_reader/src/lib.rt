@@ -10,7 +10,6 @@ ghost use Rattle.std.specs.Prelude.{◌≡◌};
 ghost use Rattle.running_model.specs.Stages.{count_of};
 ghost use Rattle.running_rw_reader.specs.RwReaderSteps.{HoldsAreOfARun, NoHoldBesideAWriteHold};
 
-mod deeds;
 mod reading;
 mod shares;
 mod steps;

@@ -1,7 +1,6 @@
 //! Each atomic step of a reader-preferring lock.
 ghost use Rattle.std.specs.Prelude.{◌≡◌, ◌-◌, ◌^◌};
 
-use crate::deeds::{ComeToRead, ComeToWrite, LeaveReading, LeaveWriting, Look};
 use crate::{RwLockReaderPreference, RwReaderPass};
 use model_rw_reader::writer_enters;
 use running_model::Sealed;
@@ -24,7 +23,8 @@ impl<A: Allocator> RwLockReaderPreference<A> {
     ghost use Rattle.running_model.specs.Stages.{id_of};
     ghost use Rattle.running_tallies.specs.Shown.{object_shown, index_shown};
     ghost use Rattle.running_rw_reader.specs.RwReaderParties.{has_hold, Unlocks};
-    ghost use Rattle.running_rw_reader.specs.RwReaderSteps.{read, written, word_of};
+    ghost use Rattle.running_rw_reader.specs.RwReaderSteps.{word_of};
+    ghost use Rattle.running_tallies.specs.RwReaderRule.{read, written};
     ghost use Rattle.running_rw_reader.specs.RwReaderShown.{IsRwReaderPass, reads_of, writes_of, HasLeftReading, HasLeftWriting};
 
     /// A load.
@@ -40,7 +40,7 @@ impl<A: Allocator> RwLockReaderPreference<A> {
         ensures went { Went rw_reader_model W.coming (parties_of turn.entry.pass.now) result.0 (parties_of result.1.pass.now) }
         ensures exact { IsWhole (part_of turn.entry.pass.now) → result.0 ≡ word_of (tally_of turn.entry.pass.now) }
     {
-        turn.load_by::<(), A, Look>(&self.stage, 0)
+        turn.load(&self.stage, 0)
     }
 
     /// An exchange of the value seen for one more, and the value that it found.
@@ -63,7 +63,7 @@ impl<A: Allocator> RwLockReaderPreference<A> {
         ensures went { Went rw_reader_model Going (parties_of turn.entry.pass.now) result.0 (parties_of result.1.pass.now) }
         ensures exact { IsWhole (part_of turn.entry.pass.now) → result.0 ≡ word_of (tally_of turn.entry.pass.now) }
     {
-        turn.exchange_by::<(), A, ComeToRead>(&self.stage, 0, seen, more)
+        turn.exchange(&self.stage, 0, seen, more)
     }
 
     /// A subtraction of 1, by a pass that has a read hold.
@@ -79,7 +79,7 @@ impl<A: Allocator> RwLockReaderPreference<A> {
         ensures released { HasLeftReading turn.entry.pass.now result.pass.now }
         ensures played { Unlocks kinds.Read (parties_of turn.entry.pass.now) (parties_of result.pass.now) }
     {
-        let (_, next) = turn.subtract_by::<(), A, LeaveReading>(&self.stage, 0, 1);
+        let (_, next) = turn.subtract(&self.stage, 0, 1);
         next
     }
 
@@ -99,7 +99,7 @@ impl<A: Allocator> RwLockReaderPreference<A> {
         ensures went { Went rw_reader_model W.coming (parties_of turn.entry.pass.now) result.0 (parties_of result.1.pass.now) }
         ensures exact { IsWhole (part_of turn.entry.pass.now) → result.0 ≡ word_of (tally_of turn.entry.pass.now) }
     {
-        turn.exchange_by::<(), A, ComeToWrite>(&self.stage, 0, 0, write_locked())
+        turn.exchange(&self.stage, 0, 0, write_locked())
     }
 
     /// A store of 0, by the pass that has the write hold.
@@ -115,7 +115,7 @@ impl<A: Allocator> RwLockReaderPreference<A> {
         ensures released { HasLeftWriting turn.entry.pass.now result.pass.now }
         ensures played { Unlocks kinds.Write (parties_of turn.entry.pass.now) (parties_of result.pass.now) }
     {
-        turn.store_by::<(), A, LeaveWriting>(&self.stage, 0, 0)
+        turn.store(&self.stage, 0, 0)
     }
 
     /// The lock's word, as closures see it.

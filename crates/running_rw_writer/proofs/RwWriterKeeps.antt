@@ -7,7 +7,7 @@ use Rattle.running_passes.proofs.Sums.{sum_of_two}
 use Rattle.running_passes.proofs.Updates.{by_look, by_exchange}
 use Rattle.running_tallies.specs.RwWriterTally.{marked_add_up}
 use Rattle.running_rw_writer.specs.RwWriterSteps.{PlayedRwWriter, NoHoldBesideTheWriter, NoMarkWithoutAFlag, IsMarked, word_of, read, no_more_read, written, no_more_written, flagged, SaysAlone, Loaded, IsSeenByWriter, LoadedToWrite, ReaderIn, ReaderOut, WriterIn, WriterOut, SetsMark, TakesMark, Unchanged}
-use Rattle.running_tallies.proofs.HeldKeeps.{comes_in, goes_out, takes_over, steps_down, parts, only_writes, only_reads}
+use Rattle.running_tallies.specs.HeldKeeps.{comes_in, goes_out, takes_over, steps_down, parts, only_writes, only_reads}
 
 -- how many holds stand, as the word of a lock without a mark would say it
 abbrev holds_say : Holds → ℕ

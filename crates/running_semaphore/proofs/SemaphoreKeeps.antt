@@ -1,6 +1,6 @@
 -- What a step makes of what a pass saw and counts; and where no other pass is left, the word is what its tally comes to.
-use Rattle.running_semaphore.specs.Names.{Word, Call, Intent, carried_out, value_told, SemaphorePlace, semaphore_table, View, view_of, looked, missed, wrote, sum_of, Parties, sights_after, Coming, Beginning, MayStep, WentAlone, played, none_played, both_played, PlaysAndCounts, Told, SemaphoreScript, Permits, no_permits, both_permits, value_of, permits_after, ArePermitsOf, semaphore_model}
-use Rattle.running_semaphore.proofs.Names.{◌≡◌, ◌≢◌, ℕ, ◌+◌, ◌-◌, ◌%◌, ◌^◌, ◌<◌, ◌≤◌, ◌==◌, Bool, true, List, [], ◌∷◌, ap, sym, subst, ◌∙◌, refl, Some, arith, ne_eqb, eqb_same}
+use Rattle.running_semaphore.specs.Names.{Word, Call, Intent, carried_out, value_told, SemaphorePlace, semaphore_table, View, looked, missed, wrote, sum_of, Parties, sights_after, Coming, Beginning, MayStep, WentAlone, played, none_played, both_played, PlaysAndCounts, Told, SemaphoreScript, Permits, no_permits, both_permits, value_of, permits_after, ArePermitsOf, semaphore_model}
+use Rattle.running_semaphore.proofs.Names.{◌≡◌, ◌≢◌, ℕ, ◌+◌, ◌-◌, ◌%◌, ◌^◌, ◌<◌, ◌≤◌, List, [], ◌∷◌, ap, sym, subst, ◌∙◌, refl, Some, arith}
 use Rattle.model_events.specs.declared.event.Act.{Act}
 use Rattle.model_events.specs.declared.event.Event.{Event}
 use Rattle.model_events.specs.Past.{word_in}
@@ -10,14 +10,11 @@ use Rattle.model_semaphore.proofs.Laws.{semaphore_tallies}
 use Rattle.running_passes.specs.Objects.{HasClosed}
 use Rattle.running_model.proofs.Words.{hold_at}
 use Rattle.running_model.proofs.OfARun.{of_a_run}
-use Rattle.running_model.proofs.Steps.{told_so, found_there}
+use Rattle.running_model.proofs.Steps.{told_so, found_there, done_so, missed_so}
 use Rattle.running_semaphore.specs.SemaphoreSteps.{PlayedSemaphore, PermitsAreOfARun, took, gave}
 
 module _ (initial : ℕ) where
   -- what a step tells, by its act
-
-  abbrev After : Act ℕ → Call ℕ → View Permits → View Permits
-  After act call v = view_of v.part (sights_after act v.sights) (permits_after act call v.tally)
 
   pub loads : (way : Coming ℕ) (p : Parties ℕ) (found : ℕ) (v w : View Permits) → MayStep (semaphore_model initial) (Word.State ∷ []) way 0 (λ k. Intent.Load k) p →
       Told (semaphore_model initial) sights_after permits_after way p found v w → w ≡ looked v found
@@ -25,18 +22,16 @@ module _ (initial : ℕ) where
 
   pub takes : (way : Coming ℕ) (p : Parties ℕ) (old new found : ℕ) (v w : View Permits) → MayStep (semaphore_model initial) (Word.State ∷ []) way 0 (λ k. Intent.Exchange k old new) p →
       Told (semaphore_model initial) sights_after permits_after way p found v w → found ≡ old → w ≡ wrote v (took v.tally)
-  takes way p old new found v w may told hit = told_so _ _ _ _ (λ k. Intent.Exchange k old new) p may Word.State may.named found sights_after permits_after v w told
-      ∙ ap (λ (b : Bool). After (Act.Exchange Word.State old new found b) may.call v) (subst (λ n. (n == old) ≡ true) (sym hit) (eqb_same old))
+  takes way p old new found v w may told hit = done_so _ _ _ _ old new p may Word.State may.named found permits_after v w told hit
 
   pub misses : (way : Coming ℕ) (p : Parties ℕ) (old new found : ℕ) (v w : View Permits) → MayStep (semaphore_model initial) (Word.State ∷ []) way 0 (λ k. Intent.Exchange k old new) p →
       Told (semaphore_model initial) sights_after permits_after way p found v w → found ≢ old → w ≡ missed v old found
-  misses way p old new found v w may told miss = told_so _ _ _ _ (λ k. Intent.Exchange k old new) p may Word.State may.named found sights_after permits_after v w told
-      ∙ ap (λ (b : Bool). After (Act.Exchange Word.State old new found b) may.call v) (ne_eqb found old miss)
+  misses way p old new found v w may told miss = missed_so _ _ _ _ old new p may Word.State may.named found permits_after v w told miss
 
   pub gives : (p : Parties ℕ) (n found : ℕ) (v w : View Permits) → (may : MayStep (semaphore_model initial) (Word.State ∷ []) (Beginning (Call.Post n)) 0 (λ k. Intent.Add k n) p) →
       Told (semaphore_model initial) sights_after permits_after (Beginning (Call.Post n)) p found v w → w ≡ wrote v (gave n v.tally)
   gives p n found v w may told = told_so _ _ _ _ (λ k. Intent.Add k n) p may Word.State may.named found sights_after permits_after v w told
-      ∙ ap (λ (call : Call ℕ). After (Act.Add Word.State found ((found + n) % 2 ^ 64)) call v) (sym may.comes.0)
+      ∙ ap (λ (call : Call ℕ). wrote v (permits_after (Act.Add Word.State found ((found + n) % 2 ^ 64)) call v.tally)) (sym may.comes.0)
 
   -- Where no other pass is left, the word is what the tally comes to.
 

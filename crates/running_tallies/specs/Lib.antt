@@ -8,13 +8,14 @@ pub mod BarrierRule
 pub mod BarrierTally
 pub mod Held
 pub mod HeldTally
+pub mod HeldKeeps
 pub mod RwReaderRule
-pub mod RwReaderTally
 pub mod RwWriterRule
 pub mod RwWriterTally
 pub mod MutexScript
 pub mod SemaphoreScript
 pub mod BarrierScript
 pub mod RwReaderScript
+pub mod RwReaderTally
 pub mod RwWriterScript
 pub mod Shown

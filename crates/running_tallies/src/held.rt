@@ -1,7 +1,9 @@
 //! What a pass of a reader-writer lock counts.
 ghost use Rattle.std.specs.Prelude.{Bool};
 
-use running_model::Counts;
+use crate::rw_reader::RwReaderScript;
+use model_rw_reader::RwReaderPlace;
+use running_model::{Counts, CountsByActs};
 use running_passes::{Rule, Tally};
 
 /// What a hold knows of what is kept under its lock, as plain data of which no value is made. It can be told whether two holds know
@@ -50,13 +52,13 @@ impl<X: Known> Tally for Held<X> {
     ghost adds_up = { held_adds_up X.same X.tells };
 }
 
-/// The lock's word is the number of read holds of all passes, 2^64 - 2 at most, or 2^64 - 1 with one write hold and no other.
+/// The run alone says what all passes count.
 impl Rule<(), ()> for Held<()> {
-    ghost use Rattle.running_tallies.specs.RwReaderRule.{no_holds, RwReaderAgrees};
+    ghost use Rattle.running_tallies.specs.RwReaderRule.{no_holds};
 
     ghost first = { λ _. no_holds };
 
-    ghost agrees = { λ _. RwReaderAgrees };
+    ghost agrees = { λ _ _ _ _. Unit {0} };
 }
 
 /// All passes together have as many holds of each kind as the parties of the run.
@@ -71,4 +73,20 @@ impl Counts<(), u64> for Held<()> {
     ghost stays = { λ _. holds_stay rw_reader_table };
 
     ghost opens = { λ _. record { reads = refl; writes = refl } };
+}
+
+impl CountsByActs<(), RwReaderScript, RwReaderPlace, u64> for Held<()> {
+    ghost use Rattle.running_model.specs.Sees.{sights_after};
+    ghost use Rattle.running_tallies.specs.RwReaderRule.{held_after, held_needed};
+    ghost use Rattle.running_tallies.specs.RwReaderTally.{holds_go_on};
+
+    ghost free = { λ _ _ _ _. tt };
+
+    ghost sees = { sights_after };
+
+    ghost after = { held_after };
+
+    ghost needs = { held_needed };
+
+    ghost goes_on = { λ _. holds_go_on };
 }

@@ -1,10 +1,17 @@
-use Rattle.running_rw_reader.specs.Names.{Going, parties_of, counted}
-use Rattle.running_rw_reader.proofs.RwReaderCounts.{reader_in_counts}
-use Rattle.running_rw_reader.proofs.RwReaderKeeps.{readers_in}
+use Rattle.running_rw_reader.proofs.RwReaderKeeps.{misses, exchanges_alone, reads_on, one_more}
 use Rattle.running_rw_reader.proofs.RwLockReaderPreference.come_to_read.Goals as goal
 
-pub exchange_by-requires-clause-update : goal.exchange_by-requires-clause-update
-exchange_by-requires-clause-update g c = readers_in _ _ _ c.requires.room c.requires.more
+pub returns-clause-done : goal.returns-clause-done
+returns-clause-done g c = reads_on _ _ _ _ c.args.turn.pass.now c.exchange.result.1.pass.now c.requires.may c.requires.more c.requires.room c.exchange.ensures.same c.exchange.ensures.told
 
-pub exchange_by-requires-clause-follow : goal.exchange_by-requires-clause-follow
-exchange_by-requires-clause-follow g c = reader_in_counts Going (parties_of c.args.turn.pass.now) (counted c.args.turn.pass.now) _ _ c.requires.room c.requires.more
+pub returns-clause-reads : goal.returns-clause-reads
+returns-clause-reads g c = λ hit. (one_more _ _ _ _ c.args.turn.pass.now c.exchange.result.1.pass.now c.requires.may c.requires.more c.requires.room c.exchange.ensures.beside (reads_on _ _ _ _ c.args.turn.pass.now c.exchange.result.1.pass.now c.requires.may c.requires.more c.requires.room c.exchange.ensures.same c.exchange.ensures.told hit) hit).0
+
+pub returns-clause-writes : goal.returns-clause-writes
+returns-clause-writes g c = λ hit. (one_more _ _ _ _ c.args.turn.pass.now c.exchange.result.1.pass.now c.requires.may c.requires.more c.requires.room c.exchange.ensures.beside (reads_on _ _ _ _ c.args.turn.pass.now c.exchange.result.1.pass.now c.requires.may c.requires.more c.requires.room c.exchange.ensures.same c.exchange.ensures.told hit) hit).1
+
+pub returns-clause-failed : goal.returns-clause-failed
+returns-clause-failed g c = misses _ _ _ _ c.args.turn.pass.now c.exchange.result.1.pass.now c.requires.may c.exchange.ensures.same c.exchange.ensures.told
+
+pub returns-clause-exact : goal.returns-clause-exact
+returns-clause-exact g c = exchanges_alone _ _ _ _ c.args.turn.pass.now c.exchange.result.1.pass.now c.requires.may c.exchange.ensures.alone

@@ -1,17 +1,15 @@
-use Rattle.running_rw_reader.specs.Names.{Call, Continuing, parties_of, counted}
-use Rattle.running_rw_reader.proofs.RwReaderCounts.{writer_out_counts}
 use Rattle.running_rw_reader.proofs.RwReaderKeeps.{writers_out}
 use Rattle.running_rw_reader.proofs.RwReaderPlays.{may_leave_writing, leaves_writing}
 use Rattle.running_rw_reader.proofs.RwLockReaderPreference.leave_writing.Goals as goal
 
-pub store_by-requires-clause-may : goal.store_by-requires-clause-may
-store_by-requires-clause-may g c = may_leave_writing _ c.requires.has
+pub store-requires-clause-may : goal.store-requires-clause-may
+store-requires-clause-may g c = may_leave_writing _ c.requires.has
 
-pub store_by-requires-clause-update : goal.store_by-requires-clause-update
-store_by-requires-clause-update g c = writers_out _ c.requires.on
+pub store-requires-clause-needs : goal.store-requires-clause-needs
+store-requires-clause-needs g c = λ name found. c.requires.on
 
-pub store_by-requires-clause-follow : goal.store_by-requires-clause-follow
-store_by-requires-clause-follow g c = writer_out_counts (Continuing Call.Unlock) (parties_of c.args.turn.pass.now) (counted c.args.turn.pass.now) c.requires.on
+pub returns-clause-released : goal.returns-clause-released
+returns-clause-released g c = writers_out _ c.args.turn.pass.now c.store.result.pass.now (may_leave_writing _ c.requires.has) c.store.ensures.same c.store.ensures.beside c.store.ensures.told c.requires.on
 
 pub returns-clause-played : goal.returns-clause-played
-returns-clause-played g c = leaves_writing _ _ _ c.store_by.ensures.went
+returns-clause-played g c = leaves_writing _ _ _ c.store.ensures.went

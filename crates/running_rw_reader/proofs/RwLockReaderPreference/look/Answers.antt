@@ -1,10 +1,8 @@
-use Rattle.running_rw_reader.specs.Names.{parties_of, counted}
-use Rattle.running_rw_reader.proofs.RwReaderCounts.{load_counts}
-use Rattle.running_rw_reader.proofs.RwReaderKeeps.{loads}
+use Rattle.running_rw_reader.proofs.RwReaderKeeps.{loads, looks_alone}
 use Rattle.running_rw_reader.proofs.RwLockReaderPreference.look.Goals as goal
 
-pub load_by-requires-clause-update : goal.load_by-requires-clause-update
-load_by-requires-clause-update g c = loads _
+pub returns-clause-saw : goal.returns-clause-saw
+returns-clause-saw g c = loads _ _ c.args.turn.pass.now c.load.result.1.pass.now c.requires.may c.load.ensures.same c.load.ensures.told
 
-pub load_by-requires-clause-follow : goal.load_by-requires-clause-follow
-load_by-requires-clause-follow g c = load_counts g.W.Way.coming (parties_of c.args.turn.pass.now) (counted c.args.turn.pass.now)
+pub returns-clause-exact : goal.returns-clause-exact
+returns-clause-exact g c = looks_alone _ _ c.args.turn.pass.now c.requires.may c.load.ensures.alone

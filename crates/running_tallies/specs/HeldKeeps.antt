@@ -1,5 +1,5 @@
 -- What each step of a reader-writer lock does to what all passes count, whatever its holds know.
-use Rattle.running_tallies.proofs.Names.{◌≡◌, ℕ, zero, suc, ◌+◌, ◌-◌, ◌^◌, ◌<◌, Bool, true, false, refl, sym, ◌∙◌, ap, subst, arith}
+use Rattle.std.proofs.Common.{◌≡◌, ℕ, zero, suc, ◌+◌, ◌-◌, ◌^◌, ◌<◌, Bool, true, false, refl, sym, ◌∙◌, ap, subst, arith}
 use Rattle.running_tallies.specs.declared.held.Held.{Held}
 use Rattle.running_tallies.specs.declared.held.Held.TheVariants.{Free, Reading, Writing, Torn}
 use Rattle.running_tallies.specs.Held.{TellsSame, readers_if, both_held, read_holds, write_holds, Knows, reader_in, reader_out, Locks}
