@@ -1,7 +1,7 @@
 //! Each atomic step of a reader-preferring lock.
 ghost use Rattle.std.specs.Prelude.{◌≡◌, ◌-◌, ◌^◌};
 
-use crate::deeds::{ComeToRead, ComeToWrite, LeaveReading, LeaveWriting, Look};
+use crate::deeds::{ComeToWrite, LeaveReading, LeaveWriting};
 use crate::{RwLockReaderPreference, RwReaderPass};
 use model_rw_reader::writer_enters;
 use running_model::Sealed;
@@ -11,7 +11,7 @@ use running_tallies::WaitWord;
 use std::alloc::Allocator;
 
 impl<A: Allocator> RwLockReaderPreference<A> {
-    ghost use Rattle.std.specs.Prelude.{ℕ, true, ◌+◌, ◌<◌, ◌≢◌, [], ◌∷◌};
+    ghost use Rattle.std.specs.Prelude.{ℕ, true, ◌<◌, ◌≢◌, [], ◌∷◌};
     ghost use Rattle.running_model.specs.Passes.{parties_of, counts_of as tally_of};
     ghost use Rattle.model_events.specs.declared.event.Word.TheVariants as words;
     ghost use Rattle.model_events.specs.declared.hold.HoldKind.TheVariants as kinds;
@@ -19,52 +19,13 @@ impl<A: Allocator> RwLockReaderPreference<A> {
     ghost use Rattle.running_tallies.specs.RwReaderScript.{rw_reader_model};
     ghost use Rattle.running_passes.specs.Parts.{IsWhole};
     ghost use Rattle.running_passes.specs.Passes.{part_of};
-    ghost use Rattle.running_model.specs.Plays.{Going, MayStep, Went};
-    ghost use Rattle.running_model.specs.Counts.{HasSeen, HasMissed, HasDone};
+    ghost use Rattle.running_model.specs.Plays.{MayStep, Went};
+    ghost use Rattle.running_model.specs.Counts.{HasMissed, HasDone};
     ghost use Rattle.running_model.specs.Stages.{id_of};
     ghost use Rattle.running_tallies.specs.Shown.{object_shown, index_shown};
     ghost use Rattle.running_rw_reader.specs.RwReaderParties.{has_hold, Unlocks};
-    ghost use Rattle.running_rw_reader.specs.RwReaderSteps.{read, written, word_of};
+    ghost use Rattle.running_rw_reader.specs.RwReaderSteps.{written, word_of};
     ghost use Rattle.running_rw_reader.specs.RwReaderShown.{IsRwReaderPass, reads_of, writes_of, HasLeftReading, HasLeftWriting};
-
-    /// A load.
-    #[inline(always)]
-    pub(crate) fn look<'p, W: Way<u64>>(
-        &self,
-        turn: Turn<'p, RwReaderPass, W>,
-    ) -> (u64, Turn<'p, RwReaderPass, Goes>)
-        requires own { IsRwReaderPass self.now turn.pass.now }
-        requires may { MayStep rw_reader_model (words.State ∷ []) W.coming 0 (λ w. intents.Load w) (parties_of turn.pass.now) }
-        ensures same_borrow { result.1.pass.ghost_name ≡ turn.entry.pass.ghost_name }
-        ensures saw { HasSeen result.0 turn.entry.pass.now result.1.pass.now }
-        ensures went { Went rw_reader_model W.coming (parties_of turn.entry.pass.now) result.0 (parties_of result.1.pass.now) }
-        ensures exact { IsWhole (part_of turn.entry.pass.now) → result.0 ≡ word_of (tally_of turn.entry.pass.now) }
-    {
-        turn.load_by::<(), A, Look>(&self.stage, 0)
-    }
-
-    /// An exchange of the value seen for one more, and the value that it found.
-    #[inline(always)]
-    pub(crate) fn come_to_read<'p>(
-        &self,
-        turn: Turn<'p, RwReaderPass, Goes>,
-        seen: u64,
-        more: u64,
-    ) -> (u64, Turn<'p, RwReaderPass, Goes>)
-        requires own { IsRwReaderPass self.now turn.pass.now }
-        requires room { seen < 2 ^ 64 - 2 }
-        requires more { more ≡ seen + 1 }
-        requires may { MayStep rw_reader_model (words.State ∷ []) Going 0 (λ w. intents.Exchange w seen more) (parties_of turn.pass.now) }
-        ensures same_borrow { result.1.pass.ghost_name ≡ turn.entry.pass.ghost_name }
-        ensures done { result.0 ≡ seen → HasDone read turn.entry.pass.now result.1.pass.now }
-        ensures reads { result.0 ≡ seen → reads_of result.1.pass.now ≡ reads_of turn.entry.pass.now + 1 }
-        ensures writes { result.0 ≡ seen → (writes_of turn.entry.pass.now ≡ 0) × (writes_of result.1.pass.now ≡ 0) }
-        ensures failed { result.0 ≢ seen → HasMissed seen result.0 turn.entry.pass.now result.1.pass.now }
-        ensures went { Went rw_reader_model Going (parties_of turn.entry.pass.now) result.0 (parties_of result.1.pass.now) }
-        ensures exact { IsWhole (part_of turn.entry.pass.now) → result.0 ≡ word_of (tally_of turn.entry.pass.now) }
-    {
-        turn.exchange_by::<(), A, ComeToRead>(&self.stage, 0, seen, more)
-    }
 
     /// A subtraction of 1, by a pass that has a read hold.
     #[inline(always)]

@@ -26,6 +26,11 @@ reads_none seen answer two_more is = dite (ℕ_discrete (seen % 2) 1) (λ odd. i
     let no_room : seen < 2 ^ 64 - 4 → ⊥ = λ room. let more = two_more even room in cc in
     inr (omega (arith, no_room)))
 
+-- where a pass is alone, a reader enters
+pub never_shut : (seen : ℕ) (t : MarkedHolds) → IsShut seen → read_holds t.held ≡ 0 → write_holds t.held ≡ 0 → seen ≡ word_of t → ⊥
+never_shut seen t (inl odd) reads writes is = omega (arith, is, odd, reads, writes)
+never_shut seen t (inr full) reads writes is = omega (arith, is, full, reads, writes)
+
 pub marks_some : (seen to : ℕ) (answer : Option ℕ) → (seen % 2 ≡ 0 → seen ≢ 2 ^ 64 - 2 → answer ≡ Some (seen + 1)) → (seen % 2 ≡ 1 → answer ≡ None) → (seen ≡ 2 ^ 64 - 2 → answer ≡ None) → answer ≡ Some to →
     (seen % 2 ≡ 0) × (seen ≢ 2 ^ 64 - 2) × (to ≡ seen + 1)
 marks_some seen to answer even_more odd full is =

@@ -17,10 +17,6 @@ TableLed coming p found q = Went rw_writer_model coming p found q
 abbrev pub CallGoes : Call ℕ → After ℕ RwWriterPlace → List (Slot ℕ) → Parties ℕ → Type 0
 CallGoes call after done p = Leads rw_writer_model call after None done p
 
--- a `ReadLock` saw this last, and goes on so
-abbrev pub HasLooked : Patience → ℕ → List (Slot ℕ) → Parties ℕ → Type 0
-HasLooked patience seen done p = CallGoes Call.ReadLock (read_look patience seen) done p
-
 -- so, a `WriteLock`
 abbrev pub WriteGoes : After ℕ RwWriterPlace → List (Slot ℕ) → Parties ℕ → Type 0
 WriteGoes = CallGoes Call.WriteLock

@@ -64,15 +64,6 @@ pub record EntersToRead (part : Part) (t u : MarkedHolds) (last : ℕ) : Type 0 
 abbrev pub HasEnteredToRead : Pass PlayedRwWriter → Pass PlayedRwWriter → Type 0
 HasEnteredToRead = HasMoved EntersToRead
 
--- Within a `read_lock`: it saw the lock, this last, and counted nothing. Where no other pass is left, it looked once, and saw what its holds come
--- to.
-pub record HasSeenLast (found : ℕ) (p q : Pass PlayedRwWriter) : Type 0 where
-  pub stayed : HasOnlySeen p q
-  pub more : (sights_of p).count + 1 ≤ (sights_of q).count
-  pub last : (sights_of q).last ≡ found
-  pub once : IsOnly (part_of p) (tally_of p) → (sights_of q).count ≡ (sights_of p).count + 1
-  pub says : IsOnly (part_of p) (tally_of p) → found ≡ word_of (tally_of p)
-
 -- one look saw the value from which the read hold was then turned on, and nothing else changed
 abbrev pub HasReadAtOnce : Pass PlayedRwWriter → Pass PlayedRwWriter → Type 0
 HasReadAtOnce p q = counted q ≡ wrote (looked (counted p) (sights_of q).last) (read (tally_of p))

@@ -1,0 +1,41 @@
+use Rattle.std.proofs.Common.{◌∙◌, refl, inr}
+use Rattle.std.proofs.lemmas.Bool.{MatchBool-at_true, MatchBool-at_false, ne_eqb}
+use Rattle.running_model.proofs.Attempts.{seen_none, seen_twice, missed_once}
+use Rattle.running_rw_hold.proofs.RwTries.{last_missed, entered, found_again, surely}
+use Rattle.running_rw_hold.proofs.reading.read_from.Goals as goal
+
+pub loop-init : goal.loop-init
+loop-init g c = record { same_borrow = refl; stayed = seen_none _; last = c.requires.last; once = λ _ _. (refl, refl); at = λ _ _ at. at }
+
+pub enter-found-requires-clause-own : goal.enter-found-requires-clause-own
+enter-found-requires-clause-own g c = c.loop.invariant.stayed.same.0 ∙ c.requires.own
+
+pub enter-found-requires-clause-room : goal.enter-found-requires-clause-room
+enter-found-requires-clause-room g c = c.room.ensures.opens _ c.in-Some-room.is
+
+pub enter-found-requires-clause-may : goal.enter-found-requires-clause-may
+enter-found-requires-clause-may g c = let w = c.requires.at in inr (w.0, w.1, c.loop.invariant.at w.0 w.1 w.2)
+
+pub returns-in_default-clause-refused : goal.returns-in_default-clause-refused
+returns-in_default-clause-refused g c = (c.loop.invariant.stayed, c.loop.invariant.last, c.room.ensures.refuses c.in_default.is)
+
+pub returns-in_default-clause-once : goal.returns-in_default-clause-once
+returns-in_default-clause-once g c = λ says only. (c.loop.invariant.once says only).1
+
+pub returns-in_default-clause-failed : goal.returns-in_default-clause-failed
+returns-in_default-clause-failed g c = λ patience done at. c.room.ensures.shut c.in_default.is patience done _ (c.loop.invariant.at patience done at)
+
+pub returns-then-found-last-clause-moved : goal.returns-then-found-last-clause-moved
+returns-then-found-last-clause-moved g c = entered g.L.ReadSteps.moves g.L.ReadSteps.reads _ c.args.turn.pass.now c.loop.next.pass.now c.enter-found.result.1.pass.now c.loop.invariant.stayed c.loop.invariant.last (c.enter-found.ensures.done c.if-found-last.true) (c.enter-found.ensures.moved c.if-found-last.true)
+
+pub returns-then-found-last-clause-granted : goal.returns-then-found-last-clause-granted
+returns-then-found-last-clause-granted g c = λ patience done at. MatchBool-at_true _ _ (surely _ _ c.if-found-last.true) (c.enter-found.ensures.tried patience done (c.loop.invariant.at patience done at))
+
+pub loop-preserved : goal.loop-preserved
+loop-preserved g c = let miss = c.enter-found.ensures.failed c.if-found-last.false in record {
+  same_borrow = c.enter-found.ensures.same_borrow ∙ c.loop.invariant.same_borrow;
+  stayed = seen_twice c.args.turn.pass.now c.loop.next.pass.now c.enter-found.result.1.pass.now c.loop.invariant.stayed (missed_once _ _ c.loop.next.pass.now c.enter-found.result.1.pass.now miss);
+  last = last_missed _ _ c.loop.next.pass.now c.enter-found.result.1.pass.now miss;
+  once = λ says only. absurd (c.if-found-last.false (found_again g.L.ReadSteps.only g.L.ReadSteps.word_of _ _ c.args.turn.pass.now c.loop.next.pass.now c.loop.invariant.stayed (λ is. (c.loop.invariant.once says is).0 ∙ says is) c.enter-found.ensures.alone only));
+  at = λ patience done at. MatchBool-at_false _ _ (ne_eqb _ _ c.if-found-last.false) (c.enter-found.ensures.tried patience done (c.loop.invariant.at patience done at));
+}

@@ -1,0 +1,20 @@
+use Rattle.running_rw_reader.specs.Names.{Call, None, RwReaderPlace, parties_of, counted}
+use Rattle.running_rw_reader.proofs.RwReaderCounts.{load_counts}
+use Rattle.running_rw_reader.proofs.RwReaderKeeps.{loads}
+use Rattle.running_rw_reader.proofs.RwReaderPlays.{may_look}
+use Rattle.running_rw_reader.proofs.RwLockReaderPreferenceReadStepsRwReaderScriptRwReaderPlaceHeldUnit.look.Goals as goal
+
+pub load_by-requires-clause-may : goal.load_by-requires-clause-may
+load_by-requires-clause-may g c = may_look g.W.Way.coming _ c.requires.may
+
+pub load_by-requires-clause-update : goal.load_by-requires-clause-update
+load_by-requires-clause-update g c = loads _
+
+pub load_by-requires-clause-follow : goal.load_by-requires-clause-follow
+load_by-requires-clause-follow g c = load_counts g.W.Way.coming (parties_of c.args.turn.pass.now) (counted c.args.turn.pass.now)
+
+pub returns-clause-once : goal.returns-clause-once
+returns-clause-once g c = λ _ done comes. c.load_by.ensures.went Call.TryReadLock RwReaderPlace.TryReadLook None done comes
+
+pub returns-clause-tried : goal.returns-clause-tried
+returns-clause-tried g c = λ patience done comes. c.load_by.ensures.went Call.ReadLock (RwReaderPlace.ReadLook patience) None done comes
