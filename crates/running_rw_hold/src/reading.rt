@@ -10,7 +10,7 @@ ghost use Rattle.model_events.specs.Rows.{answered};
 ghost use Rattle.running_passes.specs.declared.part.Part.{Part};
 ghost use Rattle.running_passes.specs.Passes.{object_of, part_of, sights_of};
 ghost use Rattle.running_passes.specs.Answers.{MayAnswerAbort, HasAsked};
-ghost use Rattle.running_model.specs.Counts.{HasSeen, HasMissed, HasDone, HasOnlySeen, HasMoved, WasRefused, WasRefusedAt};
+ghost use Rattle.running_model.specs.Counts.{HasOnlySeen, HasMoved, WasRefused, WasRefusedAt};
 ghost use Rattle.running_model.specs.Holding.{is_holding};
 ghost use Rattle.running_model.specs.Passes.{parties_of, counts_of, counted};
 ghost use Rattle.running_model.specs.Plays.{Beginning, HasCalled, HasEnded, MayBegin};
@@ -20,7 +20,7 @@ ghost use Rattle.running_model.specs.Turns.{IsOver};
 ghost use Rattle.running_model.specs.Words.{IsNamed};
 ghost use Rattle.running_tallies.specs.Shown.{object_shown, index_shown};
 ghost use Rattle.running_rw_hold.specs.RwShown.{TurnsAway};
-ghost use Rattle.running_rw_hold.specs.RwReading.{HasLookedOnce, HasLooked, MayLook, MayEnter, HasReadFrom, HasSeenLast};
+ghost use Rattle.running_rw_hold.specs.RwReading.{HasLookedOnce, HasLooked, MayLook, MayEnter, HasLookedAt, HasTriedToEnter, HasReadFrom, HasSeenLast};
 
 use crate::calls::{ReadCall, TryReadCall};
 use model_events::WaitAction;
@@ -73,10 +73,7 @@ pub trait ReadSteps<M: Script<(), P, u64>, P, C> {
         requires own { object_of turn.pass.now ≡ object self.now }
         requires may { MayLook (M.model tt) once place W.coming (parties_of turn.pass.now) }
         ensures same_borrow { result.1.pass.ghost_name ≡ turn.entry.pass.ghost_name }
-        ensures saw { HasSeen result.0 turn.entry.pass.now result.1.pass.now }
-        ensures alone { only (part_of turn.entry.pass.now) (counts_of turn.entry.pass.now) → result.0 ≡ word_of (counts_of turn.entry.pass.now) }
-        ensures once { Tried (M.model tt) calls.TryReadLock (λ _. once) W.coming (parties_of turn.entry.pass.now) (λ _ done. HasLookedOnce (M.model tt) once place result.0 done (parties_of result.1.pass.now)) }
-        ensures tried { Tried (M.model tt) calls.ReadLock place W.coming (parties_of turn.entry.pass.now) (λ patience done. HasLooked (M.model tt) once place patience result.0 done (parties_of result.1.pass.now)) };
+        ensures looked { HasLookedAt (M.model tt) once place only word_of W.coming result.0 turn.entry.pass.now result.1.pass.now };
 
     /// An exchange of the value seen for that with one more reader, and the value that it found.
     fn enter<'p>(
@@ -89,12 +86,7 @@ pub trait ReadSteps<M: Script<(), P, u64>, P, C> {
         requires room { opens seen more }
         requires may { MayEnter (M.model tt) once place seen (parties_of turn.pass.now) }
         ensures same_borrow { result.1.pass.ghost_name ≡ turn.entry.pass.ghost_name }
-        ensures done { result.0 ≡ seen → HasDone reads turn.entry.pass.now result.1.pass.now }
-        ensures moved { result.0 ≡ seen → moves (part_of turn.entry.pass.now) (counts_of turn.entry.pass.now) (reads (counts_of turn.entry.pass.now)) seen }
-        ensures failed { result.0 ≢ seen → HasMissed seen result.0 turn.entry.pass.now result.1.pass.now }
-        ensures alone { only (part_of turn.entry.pass.now) (counts_of turn.entry.pass.now) → result.0 ≡ word_of (counts_of turn.entry.pass.now) }
-        ensures once { (done : List (Slot ℕ)) → HasLookedOnce (M.model tt) once place seen done (parties_of turn.entry.pass.now) → MatchBool (result.0 == seen) (HasEnded (M.model tt) calls.TryReadLock answers.Success (Some kinds.Read) done (parties_of result.1.pass.now)) (HasEnded (M.model tt) calls.TryReadLock answers.Interrupted None done (parties_of result.1.pass.now)) }
-        ensures tried { (patience : Patience) (done : List (Slot ℕ)) → HasLooked (M.model tt) once place patience seen done (parties_of turn.entry.pass.now) → MatchBool (result.0 == seen) (IsGranted (M.model tt) calls.ReadLock place (Some kinds.Read) done (parties_of result.1.pass.now)) (HasLooked (M.model tt) once place patience result.0 done (parties_of result.1.pass.now)) };
+        ensures tried { HasTriedToEnter (M.model tt) once place only word_of reads moves seen result.0 turn.entry.pass.now result.1.pass.now };
 
     /// The call has been answered. Gives the pass back.
     fn end<'p>(
@@ -130,10 +122,7 @@ fn first_look<'p, M: Script<(), P, u64>, P, C, L: ReadSteps<M, P, C>, B: Called<
     requires own { object_of pass.old ≡ L.object lock.now }
     requires may { MayLook (M.model tt) L.once L.place (Beginning B.call) (parties_of pass.old) }
     ensures same_borrow { result.1.pass.ghost_name ≡ pass.entry.ghost_name }
-    ensures saw { HasSeen result.0 pass.old result.1.pass.now }
-    ensures alone { L.only (part_of pass.old) (counts_of pass.old) → result.0 ≡ L.word_of (counts_of pass.old) }
-    ensures once { Tried (M.model tt) calls.TryReadLock (λ _. L.once) (Beginning B.call) (parties_of pass.old) (λ _ done. HasLookedOnce (M.model tt) L.once L.place result.0 done (parties_of result.1.pass.now)) }
-    ensures tried { Tried (M.model tt) calls.ReadLock L.place (Beginning B.call) (parties_of pass.old) (λ patience done. HasLooked (M.model tt) L.once L.place patience result.0 done (parties_of result.1.pass.now)) }
+    ensures looked { HasLookedAt (M.model tt) L.once L.place L.only L.word_of (Beginning B.call) result.0 pass.old result.1.pass.now }
 {
     let begun = begin_new::<B, Pass<Played<M, P, u64, C>>>(pass);
     lock.look(begun)

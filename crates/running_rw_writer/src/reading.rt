@@ -14,7 +14,17 @@ use std::alloc::Allocator;
 /// A load, and an exchange of the value seen for two more.
 impl<A: Allocator> ReadSteps<RwWriterScript, RwWriterPlace, MarkedHolds>
     for RwLockWriterPreference<A> {
+    ghost use Rattle.std.specs.Prelude.{[], ◌∷◌};
     ghost use Rattle.std.proofs.Common.{refl};
+    ghost use Rattle.model_events.specs.declared.event.Word.TheVariants as words;
+    ghost use Rattle.model_events.specs.declared.patience.Patience.{Patience};
+    ghost use Rattle.running_passes.specs.Passes.{object_of};
+    ghost use Rattle.running_model.specs.Passes.{parties_of};
+    ghost use Rattle.running_model.specs.Turns.{IsOver};
+    ghost use Rattle.running_model.specs.Words.{IsNamed};
+    ghost use Rattle.running_tallies.specs.Shown.{object_shown, index_shown};
+    ghost use Rattle.running_tallies.specs.RwWriterScript.{rw_writer_model};
+    ghost use Rattle.running_rw_hold.specs.RwReading.{MayLook, MayEnter, HasLookedAt, HasTriedToEnter};
     ghost use Rattle.model_rw_writer.specs.declared.RwWriterPlace.TheVariants as places;
     ghost use Rattle.running_model.specs.Stages.{id_of};
     ghost use Rattle.running_tallies.specs.Held.{read_holds, write_holds};
@@ -45,7 +55,7 @@ impl<A: Allocator> ReadSteps<RwWriterScript, RwWriterPlace, MarkedHolds>
 
     ghost begins = { record { begins = refl; free = refl; values = tt } };
 
-    ghost answers = { λ _ _. refl };
+    ghost patient = { λ _ _. refl };
 
     ghost has_none = { λ _ _ free. free.0 };
 
@@ -58,7 +68,12 @@ impl<A: Allocator> ReadSteps<RwWriterScript, RwWriterPlace, MarkedHolds>
     fn look<'p, W: Way<u64>>(
         &self,
         turn: Turn<'p, PlayedPass, W>,
-    ) -> (u64, Turn<'p, PlayedPass, Goes>) {
+    ) -> (u64, Turn<'p, PlayedPass, Goes>)
+        requires own { object_of turn.pass.now ≡ id_of self.now.stage }
+        requires may { MayLook rw_writer_model places.TryReadLook places.ReadLook W.coming (parties_of turn.pass.now) }
+        ensures same_borrow { result.1.pass.ghost_name ≡ turn.entry.pass.ghost_name }
+        ensures looked { HasLookedAt rw_writer_model places.TryReadLook places.ReadLook IsOnly held_word W.coming result.0 turn.entry.pass.now result.1.pass.now }
+    {
         turn.load_by::<(), A, Look>(&self.stage, LOCK)
     }
 
@@ -68,17 +83,31 @@ impl<A: Allocator> ReadSteps<RwWriterScript, RwWriterPlace, MarkedHolds>
         turn: Turn<'p, PlayedPass, Goes>,
         seen: u64,
         more: u64,
-    ) -> (u64, Turn<'p, PlayedPass, Goes>) {
+    ) -> (u64, Turn<'p, PlayedPass, Goes>)
+        requires own { object_of turn.pass.now ≡ id_of self.now.stage }
+        requires room { IsOpen seen × (more ≡ seen + 2) }
+        requires may { MayEnter rw_writer_model places.TryReadLook places.ReadLook seen (parties_of turn.pass.now) }
+        ensures same_borrow { result.1.pass.ghost_name ≡ turn.entry.pass.ghost_name }
+        ensures tried { HasTriedToEnter rw_writer_model places.TryReadLook places.ReadLook IsOnly held_word read EntersToRead seen result.0 turn.entry.pass.now result.1.pass.now }
+    {
         turn.exchange_by::<(), A, ComeToRead>(&self.stage, LOCK, seen, more)
     }
 
     #[inline(always)]
-    fn end<'p>(&self, turn: Turn<'p, PlayedPass, Goes>) -> &'p mut PlayedPass {
+    fn end<'p>(&self, turn: Turn<'p, PlayedPass, Goes>) -> &'p mut PlayedPass
+        requires own { object_of turn.pass.now ≡ id_of self.now.stage }
+        requires over { IsOver rw_writer_model (parties_of turn.pass.now) }
+        ensures same_borrow { result.ghost_name ≡ turn.entry.pass.ghost_name }
+        ensures still { result.now ≡ turn.entry.pass.now }
+    {
         turn.end(&self.stage)
     }
 
     #[inline(always)]
-    fn word(&self) -> Sealed<WaitWord<'_>> {
+    fn word(&self) -> Sealed<WaitWord<'_>>
+        ensures object { object_shown result.shown ≡ id_of self.now.stage }
+        ensures index { Patience → IsNamed (words.State ∷ words.Counter ∷ []) (index_shown result.shown) words.State }
+    {
         self.stage.shown(LOCK)
     }
 }

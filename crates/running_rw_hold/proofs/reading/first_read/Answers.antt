@@ -11,43 +11,43 @@ pub first_look-seen-requires-clause-may : goal.first_look-seen-requires-clause-m
 first_look-seen-requires-clause-may g c = inr (record { patience = spun 0; done = all_of (parties_of c.args.pass.now); comes = begins_so _ _ _ _ g.met.L.ReadSteps.begins })
 
 pub enter-found-requires-clause-own : goal.enter-found-requires-clause-own
-enter-found-requires-clause-own g c = c.first_look-seen.ensures.saw.0.0 ∙ c.requires.own
+enter-found-requires-clause-own g c = c.first_look-seen.ensures.looked.saw.0.0 ∙ c.requires.own
 
 pub enter-found-requires-clause-room : goal.enter-found-requires-clause-room
 enter-found-requires-clause-room g c = c.room.ensures.opens _ c.in-Some.is
 
 pub enter-found-requires-clause-may : goal.enter-found-requires-clause-may
-enter-found-requires-clause-may g c = inr (spun 0, all_of (parties_of c.args.pass.now), c.first_look-seen.ensures.tried (spun 0) _ (begins_so _ _ _ _ g.met.L.ReadSteps.begins))
+enter-found-requires-clause-may g c = inr (spun 0, all_of (parties_of c.args.pass.now), c.first_look-seen.ensures.looked.led (spun 0) _ (begins_so _ _ _ _ g.met.L.ReadSteps.begins))
 
 pub returns-in_default-clause-looked : goal.returns-in_default-clause-looked
-returns-in_default-clause-looked g c = let saw = c.first_look-seen.ensures.saw in let one = one_more _ c.args.pass.now c.first_look-seen.result.1.pass.now saw in record {
+returns-in_default-clause-looked g c = let saw = c.first_look-seen.ensures.looked.saw in let one = one_more _ c.args.pass.now c.first_look-seen.result.1.pass.now saw in record {
   stayed = seen_once _ c.args.pass.now c.first_look-seen.result.1.pass.now saw;
   more = omega (arith, one);
   last = last_seen _ c.args.pass.now c.first_look-seen.result.1.pass.now saw;
   once = λ _. one;
-  says = c.first_look-seen.ensures.alone;
+  says = c.first_look-seen.ensures.looked.alone;
 }
 
 pub returns-in_default-clause-goes_on : goal.returns-in_default-clause-goes_on
-returns-in_default-clause-goes_on g c = c.first_look-seen.ensures.tried (spun 0) _ (begins_so _ _ _ _ g.met.L.ReadSteps.begins)
+returns-in_default-clause-goes_on g c = c.first_look-seen.ensures.looked.led (spun 0) _ (begins_so _ _ _ _ g.met.L.ReadSteps.begins)
 
 pub returns-in_default-clause-exact : goal.returns-in_default-clause-exact
-returns-in_default-clause-exact g c = λ free. absurd (c.room.ensures.free c.in_default.is _ _ free (c.first_look-seen.ensures.alone (g.met.L.ReadSteps.has_none _ _ free)))
+returns-in_default-clause-exact g c = λ free. absurd (c.room.ensures.free c.in_default.is _ _ free (c.first_look-seen.ensures.looked.alone (g.met.L.ReadSteps.has_none _ _ free)))
 
 pub returns-then-found-seen-clause-moved : goal.returns-then-found-seen-clause-moved
-returns-then-found-seen-clause-moved g c = let saw = c.first_look-seen.ensures.saw in
-    entered g.L.ReadSteps.moves g.L.ReadSteps.reads _ c.args.pass.now c.first_look-seen.result.1.pass.now c.enter-found.result.1.pass.now (seen_once _ c.args.pass.now c.first_look-seen.result.1.pass.now saw) (last_seen _ c.args.pass.now c.first_look-seen.result.1.pass.now saw) (c.enter-found.ensures.done c.if-found-seen.true) (c.enter-found.ensures.moved c.if-found-seen.true)
+returns-then-found-seen-clause-moved g c = let saw = c.first_look-seen.ensures.looked.saw in
+    entered g.L.ReadSteps.moves g.L.ReadSteps.reads _ c.args.pass.now c.first_look-seen.result.1.pass.now c.enter-found.result.1.pass.now (seen_once _ c.args.pass.now c.first_look-seen.result.1.pass.now saw) (last_seen _ c.args.pass.now c.first_look-seen.result.1.pass.now saw) (c.enter-found.ensures.tried.done c.if-found-seen.true) (c.enter-found.ensures.tried.moved c.if-found-seen.true)
 
 pub returns-then-found-seen-clause-granted : goal.returns-then-found-seen-clause-granted
-returns-then-found-seen-clause-granted g c = MatchBool-at_true _ _ (surely _ _ c.if-found-seen.true) (c.enter-found.ensures.tried (spun 0) _ (c.first_look-seen.ensures.tried (spun 0) _ (begins_so _ _ _ _ g.met.L.ReadSteps.begins)))
+returns-then-found-seen-clause-granted g c = MatchBool-at_true _ _ (surely _ _ c.if-found-seen.true) (c.enter-found.ensures.tried.led (spun 0) _ (c.first_look-seen.ensures.looked.led (spun 0) _ (begins_so _ _ _ _ g.met.L.ReadSteps.begins)))
 
 pub returns-else-found-seen-clause-looked : goal.returns-else-found-seen-clause-looked
 returns-else-found-seen-clause-looked g c =
-    let saw = c.first_look-seen.ensures.saw in
-    let miss = c.enter-found.ensures.failed c.if-found-seen.false in
+    let saw = c.first_look-seen.ensures.looked.saw in
+    let miss = c.enter-found.ensures.tried.failed c.if-found-seen.false in
     let one = one_more _ c.args.pass.now c.first_look-seen.result.1.pass.now saw in
     let later = missed_once _ _ c.first_look-seen.result.1.pass.now c.enter-found.result.1.pass.now miss in
-    let again = found_again g.L.ReadSteps.only g.L.ReadSteps.word_of _ _ c.args.pass.now c.first_look-seen.result.1.pass.now (seen_once _ c.args.pass.now c.first_look-seen.result.1.pass.now saw) c.first_look-seen.ensures.alone c.enter-found.ensures.alone in record {
+    let again = found_again g.L.ReadSteps.only g.L.ReadSteps.word_of _ _ c.args.pass.now c.first_look-seen.result.1.pass.now (seen_once _ c.args.pass.now c.first_look-seen.result.1.pass.now saw) c.first_look-seen.ensures.looked.alone c.enter-found.ensures.tried.alone in record {
       stayed = seen_twice c.args.pass.now c.first_look-seen.result.1.pass.now c.enter-found.result.1.pass.now (seen_once _ c.args.pass.now c.first_look-seen.result.1.pass.now saw) later;
       more = omega (arith, one, later.saw.more);
       last = last_missed _ _ c.first_look-seen.result.1.pass.now c.enter-found.result.1.pass.now miss;
@@ -56,7 +56,7 @@ returns-else-found-seen-clause-looked g c =
     }
 
 pub returns-else-found-seen-clause-goes_on : goal.returns-else-found-seen-clause-goes_on
-returns-else-found-seen-clause-goes_on g c = MatchBool-at_false _ _ (ne_eqb _ _ c.if-found-seen.false) (c.enter-found.ensures.tried (spun 0) _ (c.first_look-seen.ensures.tried (spun 0) _ (begins_so _ _ _ _ g.met.L.ReadSteps.begins)))
+returns-else-found-seen-clause-goes_on g c = MatchBool-at_false _ _ (ne_eqb _ _ c.if-found-seen.false) (c.enter-found.ensures.tried.led (spun 0) _ (c.first_look-seen.ensures.looked.led (spun 0) _ (begins_so _ _ _ _ g.met.L.ReadSteps.begins)))
 
 pub returns-else-found-seen-clause-exact : goal.returns-else-found-seen-clause-exact
-returns-else-found-seen-clause-exact g c = λ free. absurd (c.if-found-seen.false (found_again g.L.ReadSteps.only g.L.ReadSteps.word_of _ _ c.args.pass.now c.first_look-seen.result.1.pass.now (seen_once _ c.args.pass.now c.first_look-seen.result.1.pass.now c.first_look-seen.ensures.saw) c.first_look-seen.ensures.alone c.enter-found.ensures.alone (g.met.L.ReadSteps.has_none _ _ free)))
+returns-else-found-seen-clause-exact g c = λ free. absurd (c.if-found-seen.false (found_again g.L.ReadSteps.only g.L.ReadSteps.word_of _ _ c.args.pass.now c.first_look-seen.result.1.pass.now (seen_once _ c.args.pass.now c.first_look-seen.result.1.pass.now c.first_look-seen.ensures.looked.saw) c.first_look-seen.ensures.looked.alone c.enter-found.ensures.tried.alone (g.met.L.ReadSteps.has_none _ _ free)))

@@ -26,16 +26,16 @@ pub returns-in_default-clause-failed : goal.returns-in_default-clause-failed
 returns-in_default-clause-failed g c = λ patience done at. c.room.ensures.shut c.in_default.is patience done _ (c.loop.invariant.at patience done at)
 
 pub returns-then-found-last-clause-moved : goal.returns-then-found-last-clause-moved
-returns-then-found-last-clause-moved g c = entered g.L.ReadSteps.moves g.L.ReadSteps.reads _ c.args.turn.pass.now c.loop.next.pass.now c.enter-found.result.1.pass.now c.loop.invariant.stayed c.loop.invariant.last (c.enter-found.ensures.done c.if-found-last.true) (c.enter-found.ensures.moved c.if-found-last.true)
+returns-then-found-last-clause-moved g c = entered g.L.ReadSteps.moves g.L.ReadSteps.reads _ c.args.turn.pass.now c.loop.next.pass.now c.enter-found.result.1.pass.now c.loop.invariant.stayed c.loop.invariant.last (c.enter-found.ensures.tried.done c.if-found-last.true) (c.enter-found.ensures.tried.moved c.if-found-last.true)
 
 pub returns-then-found-last-clause-granted : goal.returns-then-found-last-clause-granted
-returns-then-found-last-clause-granted g c = λ patience done at. MatchBool-at_true _ _ (surely _ _ c.if-found-last.true) (c.enter-found.ensures.tried patience done (c.loop.invariant.at patience done at))
+returns-then-found-last-clause-granted g c = λ patience done at. MatchBool-at_true _ _ (surely _ _ c.if-found-last.true) (c.enter-found.ensures.tried.led patience done (c.loop.invariant.at patience done at))
 
 pub loop-preserved : goal.loop-preserved
-loop-preserved g c = let miss = c.enter-found.ensures.failed c.if-found-last.false in record {
+loop-preserved g c = let miss = c.enter-found.ensures.tried.failed c.if-found-last.false in record {
   same_borrow = c.enter-found.ensures.same_borrow ∙ c.loop.invariant.same_borrow;
   stayed = seen_twice c.args.turn.pass.now c.loop.next.pass.now c.enter-found.result.1.pass.now c.loop.invariant.stayed (missed_once _ _ c.loop.next.pass.now c.enter-found.result.1.pass.now miss);
   last = last_missed _ _ c.loop.next.pass.now c.enter-found.result.1.pass.now miss;
-  once = λ says only. absurd (c.if-found-last.false (found_again g.L.ReadSteps.only g.L.ReadSteps.word_of _ _ c.args.turn.pass.now c.loop.next.pass.now c.loop.invariant.stayed (λ is. (c.loop.invariant.once says is).0 ∙ says is) c.enter-found.ensures.alone only));
-  at = λ patience done at. MatchBool-at_false _ _ (ne_eqb _ _ c.if-found-last.false) (c.enter-found.ensures.tried patience done (c.loop.invariant.at patience done at));
+  once = λ says only. absurd (c.if-found-last.false (found_again g.L.ReadSteps.only g.L.ReadSteps.word_of _ _ c.args.turn.pass.now c.loop.next.pass.now c.loop.invariant.stayed (λ is. (c.loop.invariant.once says is).0 ∙ says is) c.enter-found.ensures.tried.alone only));
+  at = λ patience done at. MatchBool-at_false _ _ (ne_eqb _ _ c.if-found-last.false) (c.enter-found.ensures.tried.led patience done (c.loop.invariant.at patience done at));
 }

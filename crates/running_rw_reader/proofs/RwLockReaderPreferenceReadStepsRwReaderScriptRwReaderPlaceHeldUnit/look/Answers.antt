@@ -13,8 +13,10 @@ load_by-requires-clause-update g c = loads _
 pub load_by-requires-clause-follow : goal.load_by-requires-clause-follow
 load_by-requires-clause-follow g c = load_counts g.W.Way.coming (parties_of c.args.turn.pass.now) (counted c.args.turn.pass.now)
 
-pub returns-clause-once : goal.returns-clause-once
-returns-clause-once g c = λ _ done comes. c.load_by.ensures.went Call.TryReadLock RwReaderPlace.TryReadLook None done comes
-
-pub returns-clause-tried : goal.returns-clause-tried
-returns-clause-tried g c = λ patience done comes. c.load_by.ensures.went Call.ReadLock (RwReaderPlace.ReadLook patience) None done comes
+pub returns-clause-looked : goal.returns-clause-looked
+returns-clause-looked g c = record {
+  saw = (c.load_by.ensures.same, c.load_by.ensures.told.saw);
+  alone = c.load_by.ensures.told.alone;
+  once_led = λ _ done comes. c.load_by.ensures.went Call.TryReadLock RwReaderPlace.TryReadLook None done comes;
+  led = λ patience done comes. c.load_by.ensures.went Call.ReadLock (RwReaderPlace.ReadLook patience) None done comes;
+}
