@@ -1,10 +1,8 @@
 -- The steps of a reader-preferring lock are those of its table.
-use Rattle.running_rw_reader.specs.Names.{nat_lt, MatchBool, Word, Call, Answer, Then, HoldKind, Patience, Intent, RwReaderPlace, rw_reader_intent, rw_reader_model, Slot, Parties, all_of, IsNamed, Coming, Going, Beginning, Continuing, ComesBy, IsAt, IsHolding, Led, Leads, HasCalled, HasEnded, MayStep, Went, spun, IsRefused, IsGranted, MayTry, IsToWake}
-use Rattle.running_rw_reader.proofs.Names.{◌≡◌, ◌≢◌, ℕ, ◌+◌, ◌-◌, ◌^◌, ◌<◌, ◌≤◌, ◌==◌, Bool, true, false, cond, refl, sym, ap, subst, ◌∙◌, List, [], ◌∷◌, Option, Some, None, arith, ne_eqb, eqb_same}
+use Rattle.running_rw_reader.specs.Names.{MatchBool, Word, Call, Answer, Then, HoldKind, Patience, Intent, RwReaderPlace, rw_reader_intent, rw_reader_model, Slot, Parties, all_of, IsNamed, Coming, Going, Beginning, Continuing, ComesBy, IsAt, IsHolding, Led, Leads, HasCalled, HasEnded, MayStep, Went, spun, IsRefused, IsGranted, MayTry, IsToWake, try_read_look, read_look}
+use Rattle.running_rw_reader.proofs.Names.{◌≡◌, ◌≢◌, ℕ, ◌+◌, ◌-◌, ◌^◌, ◌<◌, ◌≤◌, ◌==◌, Bool, true, false, refl, sym, ap, subst, ◌∙◌, List, [], ◌∷◌, Option, Some, None, arith, ne_eqb, inl, inr, eqb-true, eqb-false}
 use Rattle.std.proofs.lemmas.Bool.Decides.{nat_tests}
 use Rattle.model_events.specs.declared.event.Wake.{Wake}
-use Rattle.model_events.specs.declared.row.After.{After}
-use Rattle.model_events.specs.Rows.{within, refused}
 use Rattle.running_model.specs.Turns.{IsOverAside}
 use Rattle.running_model.proofs.Holding.{holding_told, holding_is}
 use Rattle.running_rw_hold.specs.RwReading.{MayLook, MayEnter}

@@ -6,7 +6,7 @@ use Rattle.running_model.specs.Stages.{IsPassOf}
 use Rattle.running_rw_reader.specs.declared.RwLockReaderPreference.{RwLockReaderPreference}
 use Rattle.running_rw_hold.specs.RwShown.{IsReadHold, IsWriteHold, kind_of, pass_of, TurnsAway}
 use Rattle.running_rw_reader.specs.RwReaderParties.{Unlocks}
-use Rattle.running_rw_reader.specs.RwReaderSteps.{PlayedRwReader, word_of, read, no_more_read, written}
+use Rattle.running_rw_reader.specs.RwReaderSteps.{PlayedRwReader, read, no_more_read, written}
 
 -- the pass of a reader-preferring lock
 abbrev pub RwReaderPass : Type 0

@@ -2,7 +2,7 @@ use Rattle.running_rw_reader.specs.Names.{Call, None, RwReaderPlace, parties_of,
 use Rattle.running_rw_reader.proofs.RwReaderCounts.{load_counts}
 use Rattle.running_rw_reader.proofs.RwReaderKeeps.{loads}
 use Rattle.running_rw_reader.proofs.RwReaderPlays.{may_look}
-use Rattle.running_rw_reader.proofs.RwLockReaderPreferenceReadStepsRwReaderScriptRwReaderPlaceHeldUnit.look.Goals as goal
+use Rattle.running_rw_reader.proofs.reading.RwLockReaderPreferenceReadStepsRwReaderScriptRwReaderPlaceHeldUnit.look.Goals as goal
 
 pub load_by-requires-clause-may : goal.load_by-requires-clause-may
 load_by-requires-clause-may g c = may_look g.W.Way.coming _ c.requires.may
