@@ -5,7 +5,7 @@ use Rattle.running_rw_writer.specs.declared.RwLockWriterPreference.{RwLockWriter
 use Rattle.running_rw_writer.specs.declared.pass.RwWriterPass.{RwWriterPass}
 use Rattle.running_rw_hold.specs.RwShown.{IsReadHold, IsWriteHold, kind_of, pass_of, TurnsAway}
 use Rattle.running_rw_writer.specs.RwWriterParties.{Unlocks, unlocked, WriteGivesUp}
-use Rattle.running_rw_writer.specs.RwWriterSteps.{PlayedRwWriter, IsMarked, IsOnly, word_of, read, no_more_read, written, no_more_written, flagged}
+use Rattle.running_rw_writer.specs.RwWriterSteps.{PlayedRwWriter, IsMarked, IsOnly, read, no_more_read, written, no_more_written, flagged}
 
 -- the pass inside, between two calls
 abbrev pub pass_in : RwWriterPass → Pass PlayedRwWriter
