@@ -10,12 +10,6 @@ use Rattle.running_rw_hold.proofs.reading.first_read.Goals as goal
 pub first_look-seen-requires-clause-may : goal.first_look-seen-requires-clause-may
 first_look-seen-requires-clause-may g c = inr (record { patience = spun 0; done = all_of (parties_of c.args.pass.now); comes = begins_so _ _ _ _ g.met.L.ReadSteps.begins })
 
-pub enter-found-requires-clause-own : goal.enter-found-requires-clause-own
-enter-found-requires-clause-own g c = c.first_look-seen.ensures.looked.saw.0.0 ∙ c.requires.own
-
-pub enter-found-requires-clause-room : goal.enter-found-requires-clause-room
-enter-found-requires-clause-room g c = c.room.ensures.opens _ c.in-Some.is
-
 pub enter-found-requires-clause-may : goal.enter-found-requires-clause-may
 enter-found-requires-clause-may g c = inr (spun 0, all_of (parties_of c.args.pass.now), c.first_look-seen.ensures.looked.led (spun 0) _ (begins_so _ _ _ _ g.met.L.ReadSteps.begins))
 

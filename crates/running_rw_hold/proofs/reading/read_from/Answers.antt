@@ -7,20 +7,8 @@ use Rattle.running_rw_hold.proofs.reading.read_from.Goals as goal
 pub loop-init : goal.loop-init
 loop-init g c = record { same_borrow = refl; stayed = seen_none _; last = c.requires.last; once = λ _ _. (refl, refl); at = λ _ _ at. at }
 
-pub enter-found-requires-clause-own : goal.enter-found-requires-clause-own
-enter-found-requires-clause-own g c = c.loop.invariant.stayed.same.0 ∙ c.requires.own
-
-pub enter-found-requires-clause-room : goal.enter-found-requires-clause-room
-enter-found-requires-clause-room g c = c.room.ensures.opens _ c.in-Some-room.is
-
-pub enter-found-requires-clause-may : goal.enter-found-requires-clause-may
-enter-found-requires-clause-may g c = let w = c.requires.at in inr (w.0, w.1, c.loop.invariant.at w.0 w.1 w.2)
-
 pub returns-in_default-clause-refused : goal.returns-in_default-clause-refused
 returns-in_default-clause-refused g c = (c.loop.invariant.stayed, c.loop.invariant.last, c.room.ensures.refuses c.in_default.is)
-
-pub returns-in_default-clause-once : goal.returns-in_default-clause-once
-returns-in_default-clause-once g c = λ says only. (c.loop.invariant.once says only).1
 
 pub returns-in_default-clause-failed : goal.returns-in_default-clause-failed
 returns-in_default-clause-failed g c = λ patience done at. c.room.ensures.shut c.in_default.is patience done _ (c.loop.invariant.at patience done at)

@@ -20,12 +20,6 @@ use Rattle.running_rw_hold.proofs.reading.try_to_read.Goals as goal
 pub first_look-seen-requires-clause-may : goal.first_look-seen-requires-clause-may
 first_look-seen-requires-clause-may g c = inl (record { patience = spun 0; done = all_of (parties_of c.args.pass.now); comes = begins_so _ _ _ _ g.met.L.ReadSteps.begins_once })
 
-pub enter-found-requires-clause-own : goal.enter-found-requires-clause-own
-enter-found-requires-clause-own g c = c.first_look-seen.ensures.looked.saw.0.0 ∙ c.requires.own
-
-pub enter-found-requires-clause-room : goal.enter-found-requires-clause-room
-enter-found-requires-clause-room g c = c.room.ensures.opens _ c.in-Some.is
-
 pub enter-found-requires-clause-may : goal.enter-found-requires-clause-may
 enter-found-requires-clause-may g c = inl (all_of (parties_of c.args.pass.now), c.first_look-seen.ensures.looked.once_led (spun 0) _ (begins_so _ _ _ _ g.met.L.ReadSteps.begins_once))
 

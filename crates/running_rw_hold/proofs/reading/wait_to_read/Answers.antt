@@ -15,18 +15,6 @@ use Rattle.running_model.proofs.Over.{is_over, either_is_over}
 use Rattle.running_rw_hold.proofs.RwTries.{told_on}
 use Rattle.running_rw_hold.proofs.reading.wait_to_read.Goals as goal
 
-pub read_later-entered-requires-clause-own : goal.read_later-entered-requires-clause-own
-read_later-entered-requires-clause-own g c = c.in-Err.ensures.looked.stayed.same.0 ∙ c.requires.own
-
-pub read_later-entered-requires-clause-last : goal.read_later-entered-requires-clause-last
-read_later-entered-requires-clause-last g c = c.in-Err.ensures.looked.last
-
-pub read_later-entered-requires-clause-at : goal.read_later-entered-requires-clause-at
-read_later-entered-requires-clause-at g c = (all_of (parties_of c.args.pass.now), c.in-Err.ensures.goes_on)
-
-pub end-pass-requires-clause-over : goal.end-pass-requires-clause-over
-end-pass-requires-clause-over g c = is_over _ Call.ReadLock _ _ _ _ c.in-Ok.ensures.granted
-
 pub end-pass-requires-in-Err-clause-over : goal.end-pass-requires-in-Err-clause-over
 end-pass-requires-in-Err-clause-over g c = either_is_over _ c.read_later-entered.result.0 Call.ReadLock _ _ _ (c.read_later-entered.ensures.over (all_of (parties_of c.args.pass.now)) c.in-Err.ensures.goes_on)
 
@@ -39,15 +27,6 @@ returns-in-Ok-clause-played g c = subst (λ q. HasCalled (g.M.Script.model tt) C
 pub returns-in-Ok-clause-has : goal.returns-in-Ok-clause-has
 returns-in-Ok-clause-has g c = λ _. subst (λ q. is_holding (g.M.Script.model tt).table HoldKind.Read (parties_of q) ≡ true) (sym (c.pass-1.given.1 (sym c.in-Ok.ensures.same_borrow ∙ sym c.end-pass.ensures.same_borrow) ∙ c.end-pass.ensures.still)) (holding_is (g.M.Script.model tt) HoldKind.Read _ _ c.in-Ok.ensures.granted.rests)
 
-pub returns-in-Ok-clause-exact : goal.returns-in-Ok-clause-exact
-returns-in-Ok-clause-exact g c = λ _. refl
-
-pub returns-in-Ok-clause-aborted : goal.returns-in-Ok-clause-aborted
-returns-in-Ok-clause-aborted g c = λ no. absurd cc
-
-pub returns-in-Ok-clause-asked : goal.returns-in-Ok-clause-asked
-returns-in-Ok-clause-asked g c = λ _ no. absurd cc
-
 pub returns-in-Err-clause-entered : goal.returns-in-Err-clause-entered
 returns-in-Err-clause-entered g c = subst (λ q. MatchBool c.read_later-entered.result.0 (HasMoved g.L.ReadSteps.moves c.args.pass.now q) (WasRefused g.L.ReadSteps.refuses 10002 c.args.pass.now q)) (sym (c.pass-in-Err-1.given.1 (sym c.in-Err.ensures.same_borrow_too ∙ sym c.read_later-entered.ensures.same_borrow ∙ sym c.end-pass-in-Err.ensures.same_borrow) ∙ c.end-pass-in-Err.ensures.still))
     (told_on g.L.ReadSteps.moves g.L.ReadSteps.refuses 1 10001 10002 c.args.pass.now c.in-Err.next.pass.now c.read_later-entered.result.1.pass.now _ (omega arith) c.in-Err.ensures.looked.stayed c.in-Err.ensures.looked.more c.read_later-entered.ensures.told)
@@ -57,12 +36,6 @@ returns-in-Err-clause-played g c = subst (λ q. MatchBool c.read_later-entered.r
 
 pub returns-in-Err-clause-has : goal.returns-in-Err-clause-has
 returns-in-Err-clause-has g c = λ done. subst (λ q. is_holding (g.M.Script.model tt).table HoldKind.Read (parties_of q) ≡ true) (sym (c.pass-in-Err-1.given.1 (sym c.in-Err.ensures.same_borrow_too ∙ sym c.read_later-entered.ensures.same_borrow ∙ sym c.end-pass-in-Err.ensures.same_borrow) ∙ c.end-pass-in-Err.ensures.still)) (holding_is (g.M.Script.model tt) HoldKind.Read _ _ (MatchBool-at_true _ _ done (c.read_later-entered.ensures.over (all_of (parties_of c.args.pass.now)) c.in-Err.ensures.goes_on)).rests)
-
-pub returns-in-Err-clause-exact : goal.returns-in-Err-clause-exact
-returns-in-Err-clause-exact g c = λ free. let no = c.in-Err.ensures.exact free in absurd cc
-
-pub returns-in-Err-clause-aborted : goal.returns-in-Err-clause-aborted
-returns-in-Err-clause-aborted g c = c.read_later-entered.ensures.aborted
 
 pub returns-in-Err-clause-asked : goal.returns-in-Err-clause-asked
 returns-in-Err-clause-asked g c = λ only no. subst (λ q. HasAsked g.W.Fn c.args.wait.now g.L.ReadSteps.refuses 10001 c.args.pass.now q) (sym (c.pass-in-Err-1.given.1 (sym c.in-Err.ensures.same_borrow_too ∙ sym c.read_later-entered.ensures.same_borrow ∙ sym c.end-pass-in-Err.ensures.same_borrow) ∙ c.end-pass-in-Err.ensures.still))

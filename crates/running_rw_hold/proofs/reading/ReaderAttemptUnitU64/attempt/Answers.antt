@@ -3,12 +3,6 @@ use Rattle.running_model.proofs.Attempts.{seen_once, seen_twice, still_so, moved
 use Rattle.running_rw_hold.proofs.RwTries.{one_more, last_seen}
 use Rattle.running_rw_hold.proofs.reading.ReaderAttemptUnitU64.attempt.Goals as goal
 
-pub look-seen-requires-clause-may : goal.look-seen-requires-clause-may
-look-seen-requires-clause-may g c = inr c.requires.comes
-
-pub read_from-requires-clause-own : goal.read_from-requires-clause-own
-read_from-requires-clause-own g c = c.look-seen.ensures.looked.saw.0.0 ∙ c.requires.own
-
 pub read_from-requires-clause-last : goal.read_from-requires-clause-last
 read_from-requires-clause-last g c = last_seen _ c.args.turn.pass.now c.look-seen.result.1.pass.now c.look-seen.ensures.looked.saw
 
