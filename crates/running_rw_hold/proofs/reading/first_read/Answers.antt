@@ -7,9 +7,6 @@ use Rattle.running_model.proofs.Attempts.{seen_once, seen_twice, missed_once}
 use Rattle.running_rw_hold.proofs.RwTries.{begins_so, one_more, last_seen, last_missed, entered, found_again, surely}
 use Rattle.running_rw_hold.proofs.reading.first_read.Goals as goal
 
-pub first_look-seen-requires-clause-may : goal.first_look-seen-requires-clause-may
-first_look-seen-requires-clause-may g c = inr (record { patience = spun 0; done = all_of (parties_of c.args.pass.now); comes = begins_so _ _ _ _ g.met.L.ReadSteps.begins })
-
 pub enter-found-requires-clause-may : goal.enter-found-requires-clause-may
 enter-found-requires-clause-may g c = inr (spun 0, all_of (parties_of c.args.pass.now), c.first_look-seen.ensures.looked.led (spun 0) _ (begins_so _ _ _ _ g.met.L.ReadSteps.begins))
 
@@ -21,12 +18,6 @@ returns-in_default-clause-looked g c = let saw = c.first_look-seen.ensures.looke
   once = λ _. one;
   says = c.first_look-seen.ensures.looked.alone;
 }
-
-pub returns-in_default-clause-goes_on : goal.returns-in_default-clause-goes_on
-returns-in_default-clause-goes_on g c = c.first_look-seen.ensures.looked.led (spun 0) _ (begins_so _ _ _ _ g.met.L.ReadSteps.begins)
-
-pub returns-in_default-clause-exact : goal.returns-in_default-clause-exact
-returns-in_default-clause-exact g c = λ free. absurd (c.room.ensures.free c.in_default.is _ _ free (c.first_look-seen.ensures.looked.alone (g.met.L.ReadSteps.has_none _ _ free)))
 
 pub returns-then-found-seen-clause-moved : goal.returns-then-found-seen-clause-moved
 returns-then-found-seen-clause-moved g c = let saw = c.first_look-seen.ensures.looked.saw in
@@ -48,9 +39,3 @@ returns-else-found-seen-clause-looked g c =
       once = λ only. absurd (c.if-found-seen.false (again only));
       says = λ only. absurd (c.if-found-seen.false (again only));
     }
-
-pub returns-else-found-seen-clause-goes_on : goal.returns-else-found-seen-clause-goes_on
-returns-else-found-seen-clause-goes_on g c = MatchBool-at_false _ _ (ne_eqb _ _ c.if-found-seen.false) (c.enter-found.ensures.tried.led (spun 0) _ (c.first_look-seen.ensures.looked.led (spun 0) _ (begins_so _ _ _ _ g.met.L.ReadSteps.begins)))
-
-pub returns-else-found-seen-clause-exact : goal.returns-else-found-seen-clause-exact
-returns-else-found-seen-clause-exact g c = λ free. absurd (c.if-found-seen.false (found_again g.L.ReadSteps.only g.L.ReadSteps.word_of _ _ c.args.pass.now c.first_look-seen.result.1.pass.now (seen_once _ c.args.pass.now c.first_look-seen.result.1.pass.now c.first_look-seen.ensures.looked.saw) c.first_look-seen.ensures.looked.alone c.enter-found.ensures.tried.alone (g.met.L.ReadSteps.has_none _ _ free)))

@@ -7,18 +7,6 @@ use Rattle.running_rw_hold.proofs.reading.read_from.Goals as goal
 pub loop-init : goal.loop-init
 loop-init g c = record { same_borrow = refl; stayed = seen_none _; last = c.requires.last; once = λ _ _. (refl, refl); at = λ _ _ at. at }
 
-pub returns-in_default-clause-refused : goal.returns-in_default-clause-refused
-returns-in_default-clause-refused g c = (c.loop.invariant.stayed, c.loop.invariant.last, c.room.ensures.refuses c.in_default.is)
-
-pub returns-in_default-clause-failed : goal.returns-in_default-clause-failed
-returns-in_default-clause-failed g c = λ patience done at. c.room.ensures.shut c.in_default.is patience done _ (c.loop.invariant.at patience done at)
-
-pub returns-then-found-last-clause-moved : goal.returns-then-found-last-clause-moved
-returns-then-found-last-clause-moved g c = entered g.L.ReadSteps.moves g.L.ReadSteps.reads _ c.args.turn.pass.now c.loop.next.pass.now c.enter-found.result.1.pass.now c.loop.invariant.stayed c.loop.invariant.last (c.enter-found.ensures.tried.done c.if-found-last.true) (c.enter-found.ensures.tried.moved c.if-found-last.true)
-
-pub returns-then-found-last-clause-granted : goal.returns-then-found-last-clause-granted
-returns-then-found-last-clause-granted g c = λ patience done at. MatchBool-at_true _ _ (surely _ _ c.if-found-last.true) (c.enter-found.ensures.tried.led patience done (c.loop.invariant.at patience done at))
-
 pub loop-preserved : goal.loop-preserved
 loop-preserved g c = let miss = c.enter-found.ensures.tried.failed c.if-found-last.false in record {
   same_borrow = c.enter-found.ensures.same_borrow ∙ c.loop.invariant.same_borrow;

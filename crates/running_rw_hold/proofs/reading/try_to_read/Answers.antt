@@ -49,9 +49,6 @@ returns-in-Some-clause-at_once g c = λ same. subst (λ q. HasReadFrom g.L.ReadS
     (sym (c.pass-1.given.1 (sym c.first_look-seen.ensures.same_borrow ∙ sym c.enter-found.ensures.same_borrow ∙ sym c.end-pass.ensures.same_borrow) ∙ c.end-pass.ensures.still))
     (entered_at_once g.L.ReadSteps.reads _ c.args.pass.now c.first_look-seen.result.1.pass.now c.enter-found.result.1.pass.now c.first_look-seen.ensures.looked.saw (c.enter-found.ensures.tried.done (eqb-true _ _ same)))
 
-pub returns-in-Some-clause-exact : goal.returns-in-Some-clause-exact
-returns-in-Some-clause-exact g c = λ free. surely _ _ (found_again g.L.ReadSteps.only g.L.ReadSteps.word_of _ _ c.args.pass.now c.first_look-seen.result.1.pass.now (seen_once _ c.args.pass.now c.first_look-seen.result.1.pass.now c.first_look-seen.ensures.looked.saw) c.first_look-seen.ensures.looked.alone c.enter-found.ensures.tried.alone (g.met.L.ReadSteps.has_none _ _ free))
-
 pub returns-in-None-clause-played : goal.returns-in-None-clause-played
 returns-in-None-clause-played g c = subst (λ q. HasCalled (g.M.Script.model tt) Call.TryReadLock Answer.Interrupted None (parties_of c.args.pass.now) (parties_of q))
     (sym (c.pass-in-None-1.given.1 (sym c.first_look-seen.ensures.same_borrow ∙ sym c.end-pass-in-None.ensures.same_borrow) ∙ c.end-pass-in-None.ensures.still))
@@ -61,6 +58,3 @@ pub returns-in-None-clause-entered : goal.returns-in-None-clause-entered
 returns-in-None-clause-entered g c = subst (λ q. TurnsAway counted HasOnlySeen g.L.ReadSteps.refuses c.args.pass.now q)
     (sym (c.pass-in-None-1.given.1 (sym c.first_look-seen.ensures.same_borrow ∙ sym c.end-pass-in-None.ensures.same_borrow) ∙ c.end-pass-in-None.ensures.still))
     (found_shut g.L.ReadSteps.refuses _ c.args.pass.now c.first_look-seen.result.1.pass.now c.first_look-seen.ensures.looked.saw (c.room.ensures.refuses c.in-None.is))
-
-pub returns-in-None-clause-exact : goal.returns-in-None-clause-exact
-returns-in-None-clause-exact g c = λ free. absurd (c.room.ensures.free c.in-None.is _ _ free (c.first_look-seen.ensures.looked.alone (g.met.L.ReadSteps.has_none _ _ free)))

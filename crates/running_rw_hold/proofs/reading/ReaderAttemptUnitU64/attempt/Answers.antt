@@ -3,18 +3,6 @@ use Rattle.running_model.proofs.Attempts.{seen_once, seen_twice, still_so, moved
 use Rattle.running_rw_hold.proofs.RwTries.{one_more, last_seen}
 use Rattle.running_rw_hold.proofs.reading.ReaderAttemptUnitU64.attempt.Goals as goal
 
-pub read_from-requires-clause-last : goal.read_from-requires-clause-last
-read_from-requires-clause-last g c = last_seen _ c.args.turn.pass.now c.look-seen.result.1.pass.now c.look-seen.ensures.looked.saw
-
-pub read_from-requires-clause-at : goal.read_from-requires-clause-at
-read_from-requires-clause-at g c = let w = c.requires.comes in (w.patience, w.done, c.look-seen.ensures.looked.led w.patience w.done w.comes)
-
-pub returns-in-Ok-clause-moved : goal.returns-in-Ok-clause-moved
-returns-in-Ok-clause-moved g c = moved_later g.L.ReadSteps.moves _ _ _ (seen_once _ c.args.turn.pass.now c.look-seen.result.1.pass.now c.look-seen.ensures.looked.saw) c.in-Ok.ensures.moved
-
-pub returns-in-Ok-clause-granted : goal.returns-in-Ok-clause-granted
-returns-in-Ok-clause-granted g c = λ patience done comes. c.in-Ok.ensures.granted patience done (c.look-seen.ensures.looked.led patience done comes)
-
 pub returns-in-Err-clause-refused : goal.returns-in-Err-clause-refused
 returns-in-Err-clause-refused g c = let saw = c.look-seen.ensures.looked.saw in let gone = c.in-Err.ensures.refused in let one = one_more _ c.args.turn.pass.now c.look-seen.result.1.pass.now saw in record {
   stayed = seen_twice _ _ _ (seen_once _ c.args.turn.pass.now c.look-seen.result.1.pass.now saw) gone.0;
@@ -24,6 +12,3 @@ returns-in-Err-clause-refused g c = let saw = c.look-seen.ensures.looked.saw in 
 pub returns-in-Err-clause-once : goal.returns-in-Err-clause-once
 returns-in-Err-clause-once g c = λ only. let saw = c.look-seen.ensures.looked.saw in let stayed = seen_once _ c.args.turn.pass.now c.look-seen.result.1.pass.now saw in
     c.in-Err.ensures.once (still_so (λ part t. g.L.ReadSteps.only part t → c.look-seen.result.0 ≡ g.L.ReadSteps.word_of t) _ _ stayed c.look-seen.ensures.looked.alone) (still_so g.L.ReadSteps.only _ _ stayed only) ∙ one_more _ c.args.turn.pass.now c.look-seen.result.1.pass.now saw
-
-pub returns-in-Err-clause-failed : goal.returns-in-Err-clause-failed
-returns-in-Err-clause-failed g c = λ patience done comes. c.in-Err.ensures.failed patience done (c.look-seen.ensures.looked.led patience done comes)
