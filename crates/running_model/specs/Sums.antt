@@ -29,6 +29,21 @@ module _ {V C : Type 0} (first : C) (add : C → C → C) (count : Act V → Opt
 pub numbers_add_up : IsTally 0 (λ n m. n + m) (λ _. 0)
 numbers_add_up = record { unit = λ n. omega arith; swap = λ n m. omega arith; group = λ n m k. omega arith; copy = λ n. omega arith }
 
+-- two numbers add up, each by itself
+pub pairs_add_up : {C : Type 0} (pair : ℕ → ℕ → C) (first second : C → ℕ) → ((n m : ℕ) → first (pair n m) ≡ n) → ((n m : ℕ) → second (pair n m) ≡ m) → ((t : C) → pair (first t) (second t) ≡ t) →
+    IsTally (pair 0 0) (λ t u. pair (first t + first u) (second t + second u)) (λ _. pair 0 0)
+pairs_add_up {C} pair first second one two whole = record { unit = unit; swap = λ t u. same _ _ _ _ (omega arith) (omega arith); group = group; copy = unit }
+  where
+    same : (a b c d : ℕ) → a ≡ b → c ≡ d → pair a c ≡ pair b d
+    same a b c d left right = λ i. pair (left i) (right i)
+
+    unit : (t : C) → pair (first (pair 0 0) + first t) (second (pair 0 0) + second t) ≡ t
+    unit t = same _ (first t) _ (second t) (omega (arith, one 0 0)) (omega (arith, two 0 0)) ∙ whole t
+
+    group : (t u v : C) → pair (first (pair (first t + first u) (second t + second u)) + first v) (second (pair (first t + first u) (second t + second u)) + second v)
+        ≡ pair (first t + first (pair (first u + first v) (second u + second v))) (second t + second (pair (first u + first v) (second u + second v)))
+    group t u v = same _ _ _ _ (omega (arith, one (first t + first u) (second t + second u), one (first u + first v) (second u + second v))) (omega (arith, two (first t + first u) (second t + second u), two (first u + first v) (second u + second v)))
+
 -- what takes no hold grants none
 pub no_kind : (kind : HoldKind) → ◌≡◌ {A = ℕ} (if is_kind kind None then 1 else 0) 0
 no_kind HoldKind.Read = refl

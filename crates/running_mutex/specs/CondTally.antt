@@ -5,21 +5,14 @@ use Rattle.model_events.specs.declared.event.Act.{Act}
 use Rattle.model_waiters.specs.Law.{is_in, is_out}
 use Rattle.running_passes.specs.Tallies.{IsTally}
 use Rattle.running_model.specs.Passes.{StaysOnNoWord, GoesOnByActs}
+use Rattle.running_model.specs.Sums.{pairs_add_up}
 use Rattle.running_model.specs.Words.{IsOnNoWord, on_no_word}
 use Rattle.running_mutex.specs.declared.waits.Waits.{Waits}
 use Rattle.running_mutex.specs.CondScript.{waiters_model}
 use Rattle.running_mutex.specs.CondRule.{waits, no_waits, both_waits, went_in, went_out, waits_after, AreWaitsIn}
 
-same_waits : (a b c d : ℕ) → a ≡ b → c ≡ d → waits a c ≡ waits b d
-same_waits a b c d first second = λ i. waits (first i) (second i)
-
 pub waits_add_up : IsTally no_waits both_waits (λ _. no_waits)
-waits_add_up = record {
-  unit = λ t. same_waits (0 + t.begun) t.begun (0 + t.ended) t.ended (omega arith) (omega arith);
-  swap = λ t u. same_waits (t.begun + u.begun) (u.begun + t.begun) (t.ended + u.ended) (u.ended + t.ended) (omega arith) (omega arith);
-  group = λ t u v. same_waits (t.begun + u.begun + v.begun) (t.begun + (u.begun + v.begun)) (t.ended + u.ended + v.ended) (t.ended + (u.ended + v.ended)) (omega arith) (omega arith);
-  copy = λ t. same_waits (0 + t.begun) t.begun (0 + t.ended) t.ended (omega arith) (omega arith);
-}
+waits_add_up = pairs_add_up waits (λ t. t.begun) (λ t. t.ended) (λ n m. refl) (λ n m. refl) (λ t. refl)
 
 -- an act on no word counts nothing
 abbrev CountsNone : Act ℕ → Type 0

@@ -1,15 +1,15 @@
 -- What a step makes of what a pass saw and knows, and what the run says of it.
 use Rattle.model_events.specs.Past.{word_in}
 use Rattle.model_events.specs.Rows.{carried_out, value_told}
-use Rattle.running_once.specs.Names.{MatchBool, Word, Act, Intent, MayStep, WentAlone, Coming, View, IsWhole, total, view_of, sum_of, once_table, none_played, both_played, core_played, played_add_up, IsSamePass, IsShare, Told, part_of, sights_of, counts_of, parties_of, counted}
-use Rattle.running_once.proofs.Names.{◌≡◌, ℕ, ◌+◌, ◌==◌, Bool, true, false, ◌||◌, List, [], ◌∷◌, refl, ap, sym, subst, ◌∙◌, arith, eqb-true, eqb-false, true≢false}
+use Rattle.running_once.specs.Names.{MatchBool, Word, Intent, MayStep, WentAlone, Coming, View, IsWhole, total, sum_of, once_table, none_played, both_played, core_played, played_add_up, IsSamePass, IsShare, Told, part_of, sights_of, counts_of, parties_of, counted}
+use Rattle.running_once.proofs.Names.{◌≡◌, ◌≢◌, ℕ, ◌+◌, ◌==◌, Bool, true, false, ◌||◌, List, [], ◌∷◌, refl, ap, sym, subst, ◌∙◌, arith}
 use Rattle.std.specs.Prelude.{Some}
 use Rattle.running_passes.specs.Sights.{HasLooked}
 use Rattle.running_passes.proofs.Sums.{others, sum_at}
 use Rattle.running_model.specs.Counts.{HasDone}
 use Rattle.running_model.specs.Sees.{sights_after}
 use Rattle.running_model.proofs.OfARun.{of_a_run}
-use Rattle.running_model.proofs.Steps.{told_so, found_there}
+use Rattle.running_model.proofs.Steps.{told_so, found_there, done_so, missed_so, by_zero}
 use Rattle.running_once.specs.declared.Runs.{Runs}
 use Rattle.running_once.specs.OnceScript.{once_model}
 use Rattle.running_once.specs.OnceRule.{no_runs, both_runs, known_runs, runs_after, AreRunsIn, OnceView, OneClosure, KnownHasEnded, ClosuresAreOfARun, ended, Says, Loaded}
@@ -40,26 +40,26 @@ pub loads : (way : Coming ℕ) (found : ℕ) (p q : PlayedPass) → MayStep once
 loads way found p q may share went told =
     record { says = says way (λ k. Intent.Load k) found p may (λ w memory. refl) share went; saw = told_so _ _ _ _ (λ k. Intent.Load k) (parties_of p) may Word.State may.named found sights_after runs_after (counted p) (counted q) told }
 
-pub begins : (way : Coming ℕ) (put found : ℕ) (p q : PlayedPass) → MayStep once_model (Word.State ∷ []) way 0 (λ k. Intent.Exchange k 0 put) (parties_of p) → IsSamePass p q → IsShare once_model both_runs AreRunsIn way (parties_of p) found (counts_of p) →
-    (IsWhole (part_of p) → WentAlone once_model (λ past. AreRunsIn past (counts_of p)) way (parties_of p) found) → Told once_model sights_after runs_after way (parties_of p) found (counted p) (counted q) →
-    MatchBool (found == 0) (HasBegun p q) (HasOnlyWaited p q) × ((found == 0) ≡ false → HasLooked IsTaken 1 (sights_of p) (sights_of q))
-begins way put found p q may same share went told = by_test (found == 0) refl (says way (λ k. Intent.Exchange k 0 put) found p may (λ w memory. refl) share went).none
-    (told_so _ _ _ _ (λ k. Intent.Exchange k 0 put) (parties_of p) may Word.State may.named found sights_after runs_after (counted p) (counted q) told)
-  where
-    by_test : (b : Bool) → (found == 0) ≡ b → (found ≡ 0 → (counts_of p).ended ≡ 0) →
-        counted q ≡ view_of (counted p).part (sights_after {V = ℕ} (Act.Exchange Word.State 0 put found b) (counted p).sights) (runs_after (Act.Exchange Word.State 0 put found b) may.call (counts_of p)) →
-        MatchBool b (HasBegun p q) (HasOnlyWaited p q) × (b ≡ false → HasLooked IsTaken 1 (sights_of p) (sights_of q))
-    by_test true test none is = (record { same = same; first = none (eqb-true found 0 test); begins = is }, λ miss. absurd (true≢false miss))
-    by_test false test none is = let count = ap (λ (v : View Runs). v.sights.count) is in (
-      record {
+-- an exchange of 0 for 1
+module _ (way : Coming ℕ) (put found : ℕ) (p q : PlayedPass) (may : MayStep once_model (Word.State ∷ []) way 0 (λ k. Intent.Exchange k 0 put) (parties_of p)) (same : IsSamePass p q)
+    (told : Told once_model sights_after runs_after way (parties_of p) found (counted p) (counted q)) where
+  pub waits : found ≢ 0 → HasOnlyWaited p q × HasLooked IsTaken 1 (sights_of p) (sights_of q)
+  waits other =
+      let is = missed_so _ _ _ _ 0 put (parties_of p) may Word.State may.named found runs_after (counted p) (counted q) told other in
+      let count = ap (λ (v : View Runs). v.sights.count) is in (
+        record { same = same; part = ap (λ (v : View Runs). v.part) is; running = ap (λ (v : View Runs). v.tally.running) is; ended = ap (λ (v : View Runs). v.tally.ended) is; saw = omega (arith, count) },
+        record { more = omega (arith, count); refusing = subst IsTaken (sym (ap (λ (v : View Runs). v.sights.last) is)) other },
+      )
+
+  pub begins : IsShare once_model both_runs AreRunsIn way (parties_of p) found (counts_of p) → (IsWhole (part_of p) → WentAlone once_model (λ past. AreRunsIn past (counts_of p)) way (parties_of p) found) →
+      MatchBool (found == 0) (HasBegun p q) (HasOnlyWaited p q)
+  begins share went = by_zero found (HasBegun p q) (HasOnlyWaited p q)
+      (λ free. record {
         same = same;
-        part = ap (λ (v : View Runs). v.part) is;
-        running = ap (λ (v : View Runs). v.tally.running) is;
-        ended = ap (λ (v : View Runs). v.tally.ended) is;
-        saw = omega (arith, count);
-      },
-      λ _. record { more = omega (arith, count); refusing = subst IsTaken (sym (ap (λ (v : View Runs). v.sights.last) is)) (eqb-false found 0 test) },
-    )
+        first = (says way (λ k. Intent.Exchange k 0 put) found p may (λ w memory. refl) share went).none free;
+        begins = done_so _ _ _ _ 0 put (parties_of p) may Word.State may.named found runs_after (counted p) (counted q) told free;
+      })
+      (λ other. (waits other).0)
 
 pub ends : (way : Coming ℕ) (p q : PlayedPass) → MayStep once_model (Word.State ∷ []) way 0 (λ k. Intent.Store k 2) (parties_of p) → IsSamePass p q → Told once_model sights_after runs_after way (parties_of p) 2 (counted p) (counted q) → HasDone ended p q
 ends way p q may same told = (same, told_so _ _ _ _ (λ k. Intent.Store k 2) (parties_of p) may Word.State may.named 2 sights_after runs_after (counted p) (counted q) told)

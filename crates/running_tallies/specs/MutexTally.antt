@@ -1,5 +1,5 @@
 -- What the passes of a mutex count adds up, and follows the run.
-use Rattle.std.proofs.Common.{ℕ, ◌+◌, ◌≡◌, ◌≤◌, ap, sym, subst, ◌∙◌, List, ◌∷◌, length, Option, Some, arith}
+use Rattle.std.proofs.Common.{refl, ℕ, ◌+◌, ◌≡◌, ◌≤◌, ap, sym, subst, ◌∙◌, List, ◌∷◌, length, Option, Some, arith}
 use Rattle.std.proofs.lemmas.Bool.{eqb-true, eqb-false}
 use Rattle.std.proofs.lemmas.Bool.Decides.{nat_tests}
 use Rattle.model_events.specs.Past.{word_in, word_after, hold_of}
@@ -9,21 +9,13 @@ use Rattle.model_events.proofs.Parties.{at_place}
 use Rattle.model_mutex.specs.declared.MutexPlace.{MutexPlace}
 use Rattle.model_mutex.specs.Table.{mutex_table, mutex_intent}
 use Rattle.model_mutex.proofs.Laws.{AtMutex, mutex_kept, mutex_is_lock}
-use Rattle.running_tallies.specs.Names.{Word, Call, Act, Event, HoldKind, Table, Hold, PendingCall, holds_of, u64_arithmetic, IsPast, StaysOnNoWord, GoesOnByActs, grants_by, same_grants, next_grants, quiet_holds, IsTally}
+use Rattle.running_tallies.specs.Names.{Word, Call, Act, Event, HoldKind, Table, Hold, PendingCall, holds_of, u64_arithmetic, IsPast, StaysOnNoWord, GoesOnByActs, grants_by, same_grants, next_grants, quiet_holds, pairs_add_up, IsTally}
 use Rattle.running_tallies.specs.declared.mutex.Holds.{Holds}
 use Rattle.running_tallies.specs.MutexScript.{mutex_model}
 use Rattle.running_tallies.specs.MutexRule.{holds, no_holds, both_holds, holds_after, holds_needed, AreGrantsIn, AreHoldsIn}
 
-same_holds : (a b c d : ℕ) → a ≡ b → c ≡ d → holds a c ≡ holds b d
-same_holds a b c d first second = λ i. holds (first i) (second i)
-
 pub holds_add_up : IsTally no_holds both_holds (λ _. no_holds)
-holds_add_up = record {
-  unit = λ t. same_holds (0 + t.holds) t.holds (0 + t.grants) t.grants (omega arith) (omega arith);
-  swap = λ t u. same_holds (t.holds + u.holds) (u.holds + t.holds) (t.grants + u.grants) (u.grants + t.grants) (omega arith) (omega arith);
-  group = λ t u v. same_holds (t.holds + u.holds + v.holds) (t.holds + (u.holds + v.holds)) (t.grants + u.grants + v.grants) (t.grants + (u.grants + v.grants)) (omega arith) (omega arith);
-  copy = λ t. same_holds (0 + t.holds) t.holds (0 + t.grants) t.grants (omega arith) (omega arith);
-}
+holds_add_up = pairs_add_up holds (λ t. t.holds) (λ t. t.grants) (λ n m. refl) (λ n m. refl) (λ t. refl)
 
 pub grants_stay : {V P : Type 0} (t : Table V P) → StaysOnNoWord (AreGrantsIn t)
 grants_stay t past e counts quiet is = same_grants t HoldKind.Write past e counts.grants quiet is

@@ -1,20 +1,12 @@
 -- What the passes of a semaphore count adds up, and follows the run.
-use Rattle.running_tallies.specs.Names.{if◌then◌else◌, Word, Call, Act, PendingCall, call_of, is_take, permits_given, semaphore_gives, IsTally, IsOnNoWord, on_no_word, StaysOnNoWord, GoesOnByActs}
+use Rattle.running_tallies.specs.Names.{if◌then◌else◌, Word, Call, Act, PendingCall, call_of, is_take, permits_given, semaphore_gives, pairs_add_up, IsTally, IsOnNoWord, on_no_word, StaysOnNoWord, GoesOnByActs}
 use Rattle.std.proofs.Common.{ℕ, ◌+◌, ◌≡◌, true, refl, ap, sym, subst, ◌∙◌, arith, Option, Some, [], ◌∷◌}
 use Rattle.running_tallies.specs.declared.semaphore.Permits.{Permits}
 use Rattle.running_tallies.specs.SemaphoreScript.{semaphore_model}
 use Rattle.running_tallies.specs.SemaphoreRule.{permits, no_permits, both_permits, first_permits, permits_after, ArePermitsOf}
 
-same_permits : (a b c d : ℕ) → a ≡ b → c ≡ d → permits a c ≡ permits b d
-same_permits a b c d first second = λ i. permits (first i) (second i)
-
 pub permits_add_up : IsTally no_permits both_permits (λ _. no_permits)
-permits_add_up = record {
-  unit = λ t. same_permits (0 + t.given) t.given (0 + t.taken) t.taken (omega arith) (omega arith);
-  swap = λ t u. same_permits (t.given + u.given) (u.given + t.given) (t.taken + u.taken) (u.taken + t.taken) (omega arith) (omega arith);
-  group = λ t u v. same_permits (t.given + u.given + v.given) (t.given + (u.given + v.given)) (t.taken + u.taken + v.taken) (t.taken + (u.taken + v.taken)) (omega arith) (omega arith);
-  copy = λ t. same_permits (0 + t.given) t.given (0 + t.taken) t.taken (omega arith) (omega arith);
-}
+permits_add_up = pairs_add_up permits (λ t. t.given) (λ t. t.taken) (λ n m. refl) (λ n m. refl) (λ t. refl)
 
 pub permits_open : (initial : ℕ) → ArePermitsOf initial [] (first_permits initial)
 permits_open initial = record { given = refl; taken = refl }
