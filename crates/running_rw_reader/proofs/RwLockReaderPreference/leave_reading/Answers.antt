@@ -7,9 +7,6 @@ use Rattle.running_rw_reader.proofs.RwLockReaderPreference.leave_reading.Goals a
 pub subtract_by-next-requires-clause-may : goal.subtract_by-next-requires-clause-may
 subtract_by-next-requires-clause-may g c = may_leave_reading _ c.requires.has
 
-pub subtract_by-next-requires-clause-update : goal.subtract_by-next-requires-clause-update
-subtract_by-next-requires-clause-update g c = readers_out _ c.requires.on
-
 pub subtract_by-next-requires-clause-follow : goal.subtract_by-next-requires-clause-follow
 subtract_by-next-requires-clause-follow g c = reader_out_counts (Continuing Call.Unlock) (parties_of c.args.turn.pass.now) (counted c.args.turn.pass.now) c.requires.on
 
