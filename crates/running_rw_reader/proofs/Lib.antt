@@ -3,4 +3,3 @@ pub mod RwReaderKeeps
 pub mod RwReaderCounts
 pub mod RwReaderTries
 pub mod RwReaderPlays
-pub mod RwReaderUnlocks

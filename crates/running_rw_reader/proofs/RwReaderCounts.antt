@@ -1,6 +1,6 @@
 -- After each step of a reader-preferring lock its passes have as many holds as stand in the run: both are what the word says.
-use Rattle.running_rw_reader.specs.Names.{Word, Call, HoldKind, Intent, RwReaderPlace, rw_reader_table, View, Parties, Coming, IsStepAt, sum_of, GoesOnCounting, none_played, both_played, Free, Reading, Writing, Torn, read_holds, write_holds, Knows, Locks, same_nothing, tells_same_nothing, Holds, no_holds, both_holds, AreHoldsIn, RwReaderAgrees, rw_reader_model, rw_reader_lawful}
-use Rattle.running_rw_reader.proofs.Names.{◌≡◌, ℕ, ◌+◌, ◌-◌, ◌%◌, ◌^◌, ◌<◌, ◌==◌, Bool, true, false, List, [], ◌∷◌, Option, inl, inr, refl, ap, sym, subst, ◌∙◌, arith, eqb-true, eqb-false, comes_in, goes_out, takes_over, steps_down}
+use Rattle.running_rw_reader.specs.Names.{Word, Call, HoldKind, Intent, RwReaderPlace, rw_reader_table, View, Parties, Coming, IsStepAt, GoesOnCounting, Free, Reading, Writing, Torn, read_holds, write_holds, Knows, Locks, same_nothing, tells_same_nothing, Holds, both_holds, AreHoldsIn, RwReaderAgrees, rw_reader_model, rw_reader_lawful}
+use Rattle.running_rw_reader.proofs.Names.{◌≡◌, ℕ, ◌+◌, ◌-◌, ◌%◌, ◌^◌, ◌<◌, ◌==◌, Bool, true, false, List, [], ◌∷◌, Option, inl, inr, refl, ap, sym, subst, ◌∙◌, arith, eqb-true, eqb-false, comes_in, goes_out, takes_over}
 use Rattle.model_events.specs.declared.event.Act.{Act}
 use Rattle.model_events.specs.declared.event.Event.{Event}
 use Rattle.model_events.specs.Past.{Hold, holds_of, word_in, word_after}
@@ -8,7 +8,7 @@ use Rattle.model_events.specs.HoldCounts.{reads_in, writes_in}
 use Rattle.model_events.specs.Laws.{IsTold}
 use Rattle.model_rw_reader.specs.Law.{CountsHolds}
 use Rattle.running_model.proofs.OfARun.{of_a_run}
-use Rattle.running_rw_reader.specs.RwReaderSteps.{read, no_more_read, written, Loaded, ReaderIn, ReaderOut, WriterIn, WriterOut, HoldsAreOfARun}
+use Rattle.running_rw_reader.specs.RwReaderSteps.{read, no_more_read, written, ReaderIn, ReaderOut, WriterIn}
 
 -- the step on the word goes on counting so
 abbrev Counting : Coming ℕ → (Word → Intent ℕ) → Parties ℕ → View Holds → (ℕ → View Holds → Type 0) → Type 0
@@ -73,10 +73,6 @@ stays : (past : List (Event ℕ)) (e : Event ℕ) (act : Act ℕ) (rest t u : Ho
     AreHoldsIn rw_reader_table (e ∷ past) (both_holds u rest)
 stays past e act rest t u so word same = so.after (subst (λ n. Locks n tt (both_holds u rest)) (sym word) (subst (λ (h : Holds). Locks (word_in rw_reader_table past Word.State) tt (both_holds h rest)) (sym same) so.before))
 
-pub load_counts : (way : Coming ℕ) (p : Parties ℕ) (v : View Holds) → Counting way (λ w. Intent.Load w) p v (Loaded v)
-load_counts way p v call place hold done comes past e found step name named act rest w told still is =
-    stays past e (Act.Load name found) rest v.tally w.tally (acts_so call place hold past e (Act.Load name found) found rest v.tally w.tally step act is) refl (ap (λ (u : View Holds). u.tally) told.saw)
-
 -- the act of an exchange, by whether it is done
 exchanged : (e : Event ℕ) (name : Word) (from to found : ℕ) (done : Bool) → Word.State ≡ name → e.act ≡ Act.Exchange name from to found (found == from) → (found == from) ≡ done → e.act ≡ Act.Exchange Word.State from to found done
 exchanged e name from to found done named act test = act ∙ ap (λ w. Act.Exchange w from to found (found == from)) (sym named) ∙ ap (λ b. Act.Exchange Word.State from to found b) test
@@ -119,11 +115,3 @@ reader_out_counts way p v some call place hold done comes past e found step name
     so.after (subst (λ (h : Holds). Locks left tt (both_holds h rest)) (sym (ap (λ (u : View Holds). u.tally) told.done))
     (subst (λ n. Locks n tt (both_holds (no_more_read v.tally) rest)) (omega (arith, so.told, so.fits, leaves.some)) leaves.locks))
 
-pub writer_out_counts : (way : Coming ℕ) (p : Parties ℕ) (v : View Holds) → write_holds v.tally ≡ 1 → Counting way (λ w. Intent.Store w 0) p v (λ _. WriterOut v)
-writer_out_counts way p v on call place hold done comes past e found step name named act rest w told still is =
-    let so = acts_so call place hold past e (Act.Store Word.State 0) found rest v.tally w.tally step (act ∙ ap (λ w. Act.Store w 0) (sym named)) is in
-    so.after (subst (λ (h : Holds). Locks 0 tt (both_holds h rest)) (sym (ap (λ (u : View Holds). u.tally) told.done))
-    (steps_down same_nothing tells_same_nothing tt (word_in rw_reader_table past Word.State) v.tally rest so.before on))
-
-pub holds_are_of_a_run : HoldsAreOfARun
-holds_are_of_a_run s r = of_a_run rw_reader_model (Word.State ∷ []) RwReaderAgrees (AreHoldsIn rw_reader_table) s.words s.homes (sum_of (none_played no_holds) (both_played both_holds) s.views) r.agree

@@ -1,12 +1,12 @@
 -- Each step of a reader-preferring lock keeps its rule.
-use Rattle.running_rw_reader.specs.Names.{View, looked, missed, wrote, Updates, none_played, both_played, core_played, played_add_up, Free, read_holds, write_holds, Locks, same_nothing, tells_same_nothing, held_adds_up, Holds, no_holds, both_holds, IsHeld, RwReaderAgrees}
-use Rattle.running_rw_reader.proofs.Names.{◌≡◌, ℕ, ◌+◌, ◌-◌, ◌%◌, ◌^◌, ◌<◌, eqb, List, get_or, set, refl, sym, ap, ◌∙◌, subst, arith, length-set, get_or-set_same, comes_in, goes_out, takes_over, steps_down, word_alone, parts, only_writes}
+use Rattle.running_rw_reader.specs.Names.{View, missed, wrote, Updates, none_played, both_played, core_played, played_add_up, Free, Locks, same_nothing, tells_same_nothing, held_adds_up, Holds, no_holds, both_holds, IsHeld, RwReaderAgrees}
+use Rattle.running_rw_reader.proofs.Names.{◌≡◌, ℕ, ◌+◌, ◌-◌, ◌%◌, ◌^◌, ◌<◌, eqb, List, get_or, set, refl, sym, ap, ◌∙◌, subst, arith, length-set, get_or-set_same, comes_in, takes_over, word_alone, parts}
 use mathlib.Core.Logic.{dite}
 use native.Mathlib.Decide.{ℕ_discrete}
 use prog.Atomic.{either}
 use Rattle.running_passes.proofs.Sums.{sum_of_two}
 use Rattle.running_passes.proofs.Updates.{by_look, by_exchange}
-use Rattle.running_rw_reader.specs.RwReaderSteps.{NoHoldBesideAWriteHold, word_of, read, no_more_read, written, Loaded, ReaderIn, ReaderOut, WriterIn, WriterOut}
+use Rattle.running_rw_reader.specs.RwReaderSteps.{NoHoldBesideAWriteHold, word_of, read, written, ReaderIn, WriterIn}
 
 -- the word is written, and is what all holds come to again
 held_again : (words : List ℕ) (n : ℕ) (t u : Holds) → IsHeld words t → Locks n tt u → IsHeld (set words 0 n) u
@@ -18,14 +18,6 @@ held_again words n t u is locks = record {
 -- where no other pass is left, the word is what the tally comes to
 alone_is : (words : List ℕ) (t rest : Holds) → IsHeld words (both_holds t rest) → rest ≡ no_holds → get_or words 0 0 ≡ word_of t
 alone_is words t rest is blank = (word_alone same_nothing tells_same_nothing tt (get_or words 0 0) t rest is.locks blank).word_is
-
-pub loads : (v : View Holds) → Updates no_holds both_holds RwReaderAgrees v 0 (λ x. x) (Loaded v)
-loads v = by_look no_holds both_holds RwReaderAgrees v 0 (Loaded v) (λ words homes rest is alone fits. (
-  looked v (get_or words 0 0),
-  refl,
-  is,
-  record { saw = refl; alone = λ whole. alone_is words v.tally rest is (alone whole) },
-))
 
 pub readers_in : (v : View Holds) (old new : ℕ) → old < 2 ^ 64 - 2 → new ≡ old + 1 → Updates no_holds both_holds RwReaderAgrees v 0 (λ x. either (eqb x old) new x) (ReaderIn old v)
 readers_in v old new room more = by_exchange no_holds both_holds RwReaderAgrees v 0 old new (ReaderIn old v)
@@ -56,20 +48,6 @@ readers_in v old new room more = by_exchange no_holds both_holds RwReaderAgrees 
       },
     ))
 
-pub readers_out : (v : View Holds) → 0 < read_holds v.tally → Updates no_holds both_holds RwReaderAgrees v 0 (λ x. (x + (2 ^ 64 - 1)) % 2 ^ 64) (λ _. ReaderOut v)
-readers_out v some = record {
-  may = λ words homes rest is alone fits.
-      let x : ℕ = get_or words 0 0 in
-      let step = goes_out same_nothing tells_same_nothing tt x v.tally rest is.locks some in
-      let left : ℕ = (x + (2 ^ 64 - 1)) % 2 ^ 64 in (
-        wrote v (no_more_read v.tally),
-        refl,
-        held_again words left (both_holds v.tally rest) (both_holds (no_more_read v.tally) rest) is
-            (subst (λ n. Locks n tt (both_holds (no_more_read v.tally) rest)) (omega (arith, fits, step.some)) step.locks),
-        record { done = refl; reads = step.reads; writes = (step.no_writer, step.still_none) },
-      );
-}
-
 pub writers_in : (v : View Holds) (new : ℕ) → new ≡ 2 ^ 64 - 1 → Updates no_holds both_holds RwReaderAgrees v 0 (λ x. either (eqb x 0) new x) (WriterIn v)
 writers_in v new all = by_exchange no_holds both_holds RwReaderAgrees v 0 0 new (WriterIn v)
     (λ words homes rest is alone fits hit.
@@ -85,20 +63,6 @@ writers_in v new all = by_exchange no_holds both_holds RwReaderAgrees v 0 0 new 
       is,
       record { done = λ hit. absurd (miss hit); failed = λ _. refl; alone = λ whole. alone_is words v.tally rest is (alone whole) },
     ))
-
--- a pass that writes does not read
-writer_reads : (t rest : Holds) {word : ℕ} → Locks word tt (both_holds t rest) → write_holds t ≡ 1 → read_holds t ≡ 0
-writer_reads t rest is on = only_writes tt t (parts same_nothing tells_same_nothing tt t rest is.knows).first on
-
-pub writers_out : (v : View Holds) → write_holds v.tally ≡ 1 → Updates no_holds both_holds RwReaderAgrees v 0 (λ _. 0) (λ _. WriterOut v)
-writers_out v on = record {
-  may = λ words homes rest is alone fits. (
-    wrote v no_holds,
-    refl,
-    held_again words 0 (both_holds v.tally rest) (both_holds no_holds rest) is (steps_down same_nothing tells_same_nothing tt (get_or words 0 0) v.tally rest is.locks on),
-    record { done = refl; reads = writer_reads v.tally rest is.locks on },
-  );
-}
 
 -- beside a write hold the others have none
 pub none_beside : NoHoldBesideAWriteHold

@@ -1,6 +1,5 @@
 use Rattle.running_rw_reader.specs.Names.{Call, Continuing, parties_of, counted}
 use Rattle.running_rw_reader.proofs.RwReaderCounts.{reader_out_counts}
-use Rattle.running_rw_reader.proofs.RwReaderKeeps.{readers_out}
 use Rattle.running_rw_reader.proofs.RwReaderPlays.{may_leave_reading, leaves_reading}
 use Rattle.running_rw_reader.proofs.RwLockReaderPreference.leave_reading.Goals as goal
 

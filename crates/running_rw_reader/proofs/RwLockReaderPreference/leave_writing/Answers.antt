@@ -1,6 +1,3 @@
-use Rattle.running_rw_reader.specs.Names.{Call, Continuing, parties_of, counted}
-use Rattle.running_rw_reader.proofs.RwReaderCounts.{writer_out_counts}
-use Rattle.running_rw_reader.proofs.RwReaderKeeps.{writers_out}
 use Rattle.running_rw_reader.proofs.RwReaderPlays.{may_leave_writing, leaves_writing}
 use Rattle.running_rw_reader.proofs.RwLockReaderPreference.leave_writing.Goals as goal
 

@@ -1,9 +1,8 @@
-use Rattle.running_rw_reader.specs.Names.{Call, Answer, HoldKind, all_of, spun, parties_of, IsNamed, rw_reader_model, Word, Beginning, HasGivenUp}
-use Rattle.running_rw_reader.proofs.Names.{MatchBool-at_true, is_over, either_is_over, ◌≡◌, ℕ, true, Some, None, MatchBool, [], ◌∷◌, ◌∙◌, refl, sym, subst}
+use Rattle.running_rw_reader.specs.Names.{Call, Answer, HoldKind, all_of, spun, parties_of, rw_reader_model, Beginning}
+use Rattle.running_rw_reader.proofs.Names.{MatchBool-at_true, is_over, either_is_over, ◌≡◌, ℕ, true, Some, None, MatchBool, [], ◌∷◌, ◌∙◌, sym, subst}
 use Rattle.running_rw_reader.specs.RwReaderParties.{has_hold}
-use Rattle.running_rw_reader.specs.RwReaderShown.{IsTaken, HasEnteredToWrite, HasPlayed}
+use Rattle.running_rw_reader.specs.RwReaderShown.{HasPlayed}
 use Rattle.running_rw_reader.proofs.RwReaderPlays.{may_write, first_write, write_begins, has_written, found_taken, granted_has}
-use Rattle.running_rw_reader.proofs.RwReaderTries.{ends}
 use Rattle.running_rw_reader.proofs.RwLockReaderPreference.wait_to_write.Goals as goal
 
 pub first_write-requires-clause-may : goal.first_write-requires-clause-may

@@ -1,7 +1,5 @@
-use Rattle.running_rw_reader.specs.Names.{Call, Answer, HoldKind}
-use Rattle.running_rw_reader.proofs.Names.{Some, refl, sym, ap, subst}
+use Rattle.running_rw_reader.proofs.Names.{refl}
 use mathlib.Core.Option as maybe
-use Rattle.running_rw_reader.specs.RwReaderShown.{RwReaderPass, HasEnteredToWrite, HasPlayed}
 use Rattle.running_rw_reader.proofs.RwLockReaderPreference.write_lock.Goals as goal
 
 pub returns : goal.returns

@@ -1,8 +1,6 @@
 use Rattle.running_rw_reader.specs.Names.{Going, parties_of, counted}
-use Rattle.running_rw_reader.proofs.Names.{arith}
 use Rattle.running_rw_reader.proofs.RwReaderCounts.{reader_in_counts}
 use Rattle.running_rw_reader.proofs.RwReaderKeeps.{readers_in}
-use Rattle.running_rw_reader.proofs.RwReaderPlays.{may_read, read_once, read_goes}
 use Rattle.running_rw_reader.proofs.reading.RwLockReaderPreferenceReadStepsRwReaderScriptRwReaderPlaceHeldUnit.enter.Goals as goal
 
 pub exchange_by-requires-clause-update : goal.exchange_by-requires-clause-update
