@@ -7,7 +7,6 @@ use Rattle.model_events.specs.Past.{Hold, holds_of, word_in, word_after}
 use Rattle.model_events.specs.HoldCounts.{reads_in, writes_in}
 use Rattle.model_events.specs.Laws.{IsTold}
 use Rattle.model_rw_reader.specs.Law.{CountsHolds}
-use Rattle.running_model.proofs.OfARun.{of_a_run}
 use Rattle.running_rw_reader.specs.RwReaderSteps.{read, no_more_read, written, ReaderIn, ReaderOut, WriterIn}
 
 -- the step on the word goes on counting so

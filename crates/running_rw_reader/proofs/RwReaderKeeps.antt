@@ -1,11 +1,11 @@
 -- Each step of a reader-preferring lock keeps its rule.
 use Rattle.running_rw_reader.specs.Names.{View, missed, wrote, Updates, none_played, both_played, core_played, played_add_up, Free, Locks, same_nothing, tells_same_nothing, held_adds_up, Holds, no_holds, both_holds, IsHeld, RwReaderAgrees}
-use Rattle.running_rw_reader.proofs.Names.{◌≡◌, ℕ, ◌+◌, ◌-◌, ◌%◌, ◌^◌, ◌<◌, eqb, List, get_or, set, refl, sym, ap, ◌∙◌, subst, arith, length-set, get_or-set_same, comes_in, takes_over, word_alone, parts}
+use Rattle.running_rw_reader.proofs.Names.{◌≡◌, ℕ, ◌+◌, ◌-◌, ◌^◌, ◌<◌, eqb, List, get_or, set, refl, sym, ap, ◌∙◌, subst, arith, length-set, get_or-set_same, comes_in, takes_over, word_alone, parts}
 use mathlib.Core.Logic.{dite}
 use native.Mathlib.Decide.{ℕ_discrete}
 use prog.Atomic.{either}
 use Rattle.running_passes.proofs.Sums.{sum_of_two}
-use Rattle.running_passes.proofs.Updates.{by_look, by_exchange}
+use Rattle.running_passes.proofs.Updates.{by_exchange}
 use Rattle.running_rw_reader.specs.RwReaderSteps.{NoHoldBesideAWriteHold, word_of, read, written, ReaderIn, WriterIn}
 
 -- the word is written, and is what all holds come to again

@@ -1,5 +1,5 @@
 use Rattle.running_rw_reader.specs.Names.{IfOk, IfErr, Beginning, Went, parties_of, rw_reader_model}
-use Rattle.running_rw_reader.proofs.Names.{◌≡◌, ◌≢◌, ◌-◌, ◌^◌, ℕ, [], ◌∷◌, subst}
+use Rattle.running_rw_reader.proofs.Names.{◌≢◌, subst}
 use Rattle.running_rw_reader.proofs.RwLockReaderPreference.first_write.Goals as goal
 
 pub returns-clause-went : goal.returns-clause-went

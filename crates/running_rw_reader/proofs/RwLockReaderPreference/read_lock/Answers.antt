@@ -1,5 +1,4 @@
 use Rattle.running_rw_reader.proofs.Names.{refl}
-use mathlib.Core.Option as maybe
 use Rattle.running_rw_reader.proofs.RwLockReaderPreference.read_lock.Goals as goal
 
 pub returns : goal.returns
