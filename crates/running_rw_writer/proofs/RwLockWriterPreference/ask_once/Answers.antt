@@ -1,11 +1,9 @@
-use Rattle.running_rw_writer.specs.Names.{WaitAction, Pass, object_of, Answered, parties_of, spun}
-use Rattle.running_rw_writer.proofs.Names.{◌<◌, ◌^◌, ◌∙◌, MatchBool, sym, ap, subst, arith}
+use Rattle.running_rw_writer.specs.Names.{WaitAction, Pass, Answered, parties_of, spun}
+use Rattle.running_rw_writer.proofs.Names.{◌<◌, ◌^◌, ◌∙◌, sym, subst, arith}
 use Rattle.running_passes.proofs.Attempts.{told_of_its_kind}
 use Rattle.running_rw_writer.specs.RwWriterSteps.{PlayedRwWriter}
 use Rattle.running_rw_writer.specs.RwWriterParties.{ComesToWrite, ComesToGiveUp}
-use Rattle.running_rw_writer.specs.RwWriterShown.{HasEnteredSeenFree, HasTried}
 use Rattle.running_rw_writer.proofs.RwWriterPlays.{stands, goes_on, stands_to_wait, continued, aborted}
-use Rattle.running_rw_writer.proofs.RwWriterTries.{unchanged, fewer, tried_again, tries_after}
 use Rattle.running_rw_writer.proofs.RwLockWriterPreference.ask_once.Goals as goal
 
 pub look_last-seen-requires-clause-at : goal.look_last-seen-requires-clause-at

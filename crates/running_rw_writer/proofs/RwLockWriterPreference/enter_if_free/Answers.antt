@@ -1,6 +1,5 @@
-use Rattle.running_rw_writer.proofs.Names.{inl, inr, refl, arith, rules}
-use Rattle.running_rw_writer.proofs.RwWriterPlays.{comes_to_enter, may_enter, entered, enter_missed, enter_refused}
-use Rattle.running_rw_writer.proofs.RwWriterTries.{not_free, unchanged, missed_it, fewer, entered_now}
+use Rattle.running_rw_writer.proofs.Names.{inr}
+use Rattle.running_rw_writer.proofs.RwWriterTries.{missed_it, fewer}
 use Rattle.running_rw_writer.proofs.RwLockWriterPreference.enter_if_free.Goals as goal
 
 pub returns-else-found-seen-clause-refused : goal.returns-else-found-seen-clause-refused

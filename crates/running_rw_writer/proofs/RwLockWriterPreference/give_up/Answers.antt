@@ -1,9 +1,7 @@
-use Rattle.running_rw_writer.specs.Names.{Call, Answer, After, Leaver, RwWriterPlace, Pass, sights_of, parties_of, rw_writer_model}
-use Rattle.running_rw_writer.proofs.Names.{None, ◌∙◌, refl, sym, subst, inl, inr, MatchBool-at_true, MatchBool-at_false, is_over}
-use Rattle.running_rw_writer.specs.RwWriterSteps.{PlayedRwWriter, IsMarked}
+use Rattle.running_rw_writer.specs.Names.{Call, After, Leaver, RwWriterPlace, Pass, parties_of}
+use Rattle.running_rw_writer.proofs.Names.{sym, subst, inr, MatchBool-at_true}
+use Rattle.running_rw_writer.specs.RwWriterSteps.{PlayedRwWriter}
 use Rattle.running_rw_writer.specs.RwWriterParties.{WriteGoes}
-use Rattle.running_rw_writer.specs.RwWriterShown.{HasGivenUpWriting}
-use Rattle.running_rw_writer.proofs.RwWriterTries.{gave_up_still}
 use Rattle.running_rw_writer.proofs.RwLockWriterPreference.give_up.Goals as goal
 
 pub returns-then-taken-clause-played : goal.returns-then-taken-clause-played

@@ -1,6 +1,3 @@
-use Rattle.running_rw_writer.specs.Names.{Call, parties_of, counted, Continuing}
-use Rattle.running_rw_writer.proofs.RwWriterCounts.{reader_out_counts}
-use Rattle.running_rw_writer.proofs.RwWriterKeeps.{readers_out}
 use Rattle.running_rw_writer.proofs.RwWriterPlays.{may_leave_reading, leaves_reading}
 use Rattle.running_rw_writer.proofs.RwLockWriterPreference.leave_reading.Goals as goal
 

@@ -1,6 +1,3 @@
-use Rattle.running_rw_writer.specs.Names.{Call, parties_of, counted, Continuing}
-use Rattle.running_rw_writer.proofs.RwWriterCounts.{writer_out_counts}
-use Rattle.running_rw_writer.proofs.RwWriterKeeps.{writers_out}
 use Rattle.running_rw_writer.proofs.RwWriterPlays.{may_leave_writing, leaves_writing}
 use Rattle.running_rw_writer.proofs.RwLockWriterPreference.leave_writing.Goals as goal
 

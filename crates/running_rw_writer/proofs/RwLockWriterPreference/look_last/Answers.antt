@@ -1,8 +1,5 @@
-use Rattle.running_rw_writer.specs.Names.{parties_of, counted, Going}
-use Rattle.running_rw_writer.proofs.RwWriterCounts.{load_to_write_counts}
 use Rattle.running_rw_writer.proofs.RwWriterKeeps.{loads_to_write}
-use Rattle.running_rw_writer.proofs.RwWriterPlays.{may_look_last, looked_last}
-use Rattle.running_rw_writer.proofs.RwWriterTries.{just_seen}
+use Rattle.running_rw_writer.proofs.RwWriterPlays.{looked_last}
 use Rattle.running_rw_writer.proofs.RwLockWriterPreference.look_last.Goals as goal
 
 pub load_by-requires-clause-update : goal.load_by-requires-clause-update

@@ -1,8 +1,4 @@
-use Rattle.running_rw_writer.specs.Names.{Call, Answer, HoldKind}
-use Rattle.running_rw_writer.proofs.Names.{Some, refl, sym, ap, subst, arith}
-use mathlib.Core.Option as maybe
-use Rattle.running_rw_writer.specs.declared.pass.RwWriterPass.{RwWriterPass}
-use Rattle.running_rw_writer.specs.RwWriterShown.{pass_in, HasEnteredToRead, HasPlayed}
+use Rattle.running_rw_writer.proofs.Names.{refl}
 use Rattle.running_rw_writer.proofs.RwLockWriterPreference.read_lock.Goals as goal
 
 pub returns : goal.returns

@@ -1,8 +1,7 @@
 use Rattle.running_rw_writer.specs.Names.{parties_of, counted, Going}
 use Rattle.running_rw_writer.proofs.RwWriterCounts.{mark_counts}
 use Rattle.running_rw_writer.proofs.RwWriterKeeps.{marks_set}
-use Rattle.running_rw_writer.proofs.RwWriterPlays.{may_mark, marked, mark_missed}
-use Rattle.running_rw_writer.proofs.RwWriterTries.{missed_it}
+use Rattle.running_rw_writer.proofs.RwWriterPlays.{marked}
 use Rattle.running_rw_writer.proofs.RwLockWriterPreference.set_mark.Goals as goal
 
 pub exchange_by-found-requires-clause-update : goal.exchange_by-found-requires-clause-update

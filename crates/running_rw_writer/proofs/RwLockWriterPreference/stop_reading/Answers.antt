@@ -1,10 +1,8 @@
 use Rattle.running_rw_writer.specs.Names.{Call, HoldKind, Leaver, released, View, Pass, sights_of, parties_of, MarkedHolds}
-use Rattle.running_rw_writer.proofs.Names.{◌≡◌, ◌<◌, true, Some, ◌∙◌, sym, ap, subst}
+use Rattle.running_rw_writer.proofs.Names.{Some, ◌∙◌, sym, ap, subst}
 use Rattle.running_rw_writer.specs.RwWriterSteps.{PlayedRwWriter}
-use Rattle.running_rw_writer.specs.RwWriterParties.{has_hold, Unlocks, unlocked}
-use Rattle.running_rw_writer.specs.RwWriterShown.{reads_of, HasLeftReading}
-use Rattle.running_rw_writer.proofs.RwWriterPlays.{unlocking, last_reader, wakes_writer, other_reader, other_is_over}
-use Rattle.running_rw_writer.proofs.RwWriterTries.{left_still}
+use Rattle.running_rw_writer.specs.RwWriterParties.{Unlocks, unlocked}
+use Rattle.running_rw_writer.proofs.RwWriterPlays.{unlocking, last_reader, wakes_writer, other_is_over}
 use Rattle.running_rw_writer.proofs.RwLockWriterPreference.stop_reading.Goals as goal
 
 pub end-pass-requires-clause-over : goal.end-pass-requires-clause-over

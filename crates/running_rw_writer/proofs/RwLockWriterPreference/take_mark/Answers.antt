@@ -1,8 +1,7 @@
 use Rattle.running_rw_writer.specs.Names.{parties_of, counted, Going}
 use Rattle.running_rw_writer.proofs.RwWriterCounts.{unmark_counts}
 use Rattle.running_rw_writer.proofs.RwWriterKeeps.{marks_taken}
-use Rattle.running_rw_writer.proofs.RwWriterPlays.{may_unmark, unmarked, unmark_missed}
-use Rattle.running_rw_writer.proofs.RwWriterTries.{missed_it}
+use Rattle.running_rw_writer.proofs.RwWriterPlays.{may_unmark}
 use Rattle.running_rw_writer.proofs.RwLockWriterPreference.take_mark.Goals as goal
 
 pub exchange_by-found-requires-clause-may : goal.exchange_by-found-requires-clause-may

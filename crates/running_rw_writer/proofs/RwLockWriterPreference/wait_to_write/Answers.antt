@@ -1,10 +1,8 @@
-use Rattle.running_rw_writer.specs.Names.{Call, Answer, HoldKind, Pass, sights_of, HasWoken, all_of, parties_of, rw_writer_model}
-use Rattle.running_rw_writer.proofs.Names.{◌≡◌, ◌∙◌, true, Some, MatchBool, refl, sym, subst, MatchBool-at_true, MatchBool-at_false, is_over}
+use Rattle.running_rw_writer.specs.Names.{Call, HoldKind, Pass, sights_of, HasWoken, all_of, parties_of}
+use Rattle.running_rw_writer.proofs.Names.{◌≡◌, ◌∙◌, true, sym, subst, MatchBool-at_true, MatchBool-at_false}
 use Rattle.running_rw_writer.specs.RwWriterSteps.{PlayedRwWriter, IsMarked}
 use Rattle.running_rw_writer.specs.RwWriterParties.{has_hold}
-use Rattle.running_rw_writer.specs.RwWriterShown.{HasEnteredSeenFree, HasGivenUpWriting, HasPlayed, HasPlayedGivingUp}
 use Rattle.running_rw_writer.proofs.RwWriterPlays.{granted_has}
-use Rattle.running_rw_writer.proofs.RwWriterTries.{tried_again, entered_after, ends_after}
 use Rattle.running_rw_writer.proofs.RwLockWriterPreference.wait_to_write.Goals as goal
 
 pub returns-then-at_once-clause-has : goal.returns-then-at_once-clause-has

@@ -1,8 +1,7 @@
 use Rattle.running_rw_writer.specs.Names.{Going, parties_of, counted}
-use Rattle.running_rw_writer.proofs.Names.{refl, arith}
 use Rattle.running_rw_writer.proofs.RwWriterCounts.{reader_in_counts}
 use Rattle.running_rw_writer.proofs.RwWriterKeeps.{readers_in}
-use Rattle.running_rw_writer.proofs.RwWriterPlays.{may_read, read_once, read_goes}
+use Rattle.running_rw_writer.proofs.RwWriterPlays.{may_read}
 use Rattle.running_rw_writer.proofs.reading.RwLockWriterPreferenceReadStepsRwWriterScriptRwWriterPlaceMarkedHolds.enter.Goals as goal
 
 pub exchange_by-requires-clause-may : goal.exchange_by-requires-clause-may

@@ -1,6 +1,3 @@
-use Rattle.running_rw_writer.specs.Names.{Call, None, RwWriterPlace, parties_of, counted}
-use Rattle.running_rw_writer.proofs.RwWriterCounts.{load_counts}
-use Rattle.running_rw_writer.proofs.RwWriterKeeps.{loads}
 use Rattle.running_rw_writer.proofs.RwWriterPlays.{may_look_to_read}
 use Rattle.running_rw_writer.proofs.reading.RwLockWriterPreferenceReadStepsRwWriterScriptRwWriterPlaceMarkedHolds.look.Goals as goal
 
