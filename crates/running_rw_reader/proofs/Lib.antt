@@ -2,4 +2,3 @@ pub mod Names
 pub mod RwReaderKeeps
 pub mod RwReaderTries
 pub mod RwReaderPlays
-pub mod RwReaderUnlocks

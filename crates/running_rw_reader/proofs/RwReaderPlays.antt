@@ -1,11 +1,10 @@
 -- The steps of a reader-preferring lock are those of its table.
-use Rattle.running_rw_reader.specs.Names.{MatchBool, Word, Call, Answer, Then, HoldKind, Patience, Intent, RwReaderPlace, rw_reader_intent, rw_reader_model, Slot, Parties, all_of, IsNamed, Coming, Going, Beginning, Continuing, ComesBy, IsAt, IsHolding, Led, Leads, HasCalled, HasEnded, MayStep, Went, spun, IsRefused, IsGranted, MayTry, IsToWake, try_read_look, read_look}
-use Rattle.running_rw_reader.proofs.Names.{◌≡◌, ◌≢◌, ℕ, ◌+◌, ◌-◌, ◌^◌, ◌<◌, ◌≤◌, ◌==◌, Bool, true, false, refl, sym, ap, subst, ◌∙◌, List, [], ◌∷◌, Option, Some, None, arith, ne_eqb, inl, inr, eqb-true, eqb-false}
+use Rattle.running_rw_reader.specs.Names.{Word, Call, Answer, Then, HoldKind, Patience, Intent, RwReaderPlace, rw_reader_intent, rw_reader_model, Slot, Parties, all_of, IsNamed, Coming, Beginning, Continuing, ComesBy, IsAt, IsHolding, Led, HasCalled, HasEnded, MayStep, Went, spun, IsRefused, IsGranted, MayTry, IsToWake}
+use Rattle.running_rw_reader.proofs.Names.{◌≡◌, ◌≢◌, ℕ, ◌-◌, ◌^◌, ◌==◌, Bool, true, false, refl, sym, subst, List, [], ◌∷◌, Some, None, ne_eqb, arith, eqb-true, eqb-false}
 use Rattle.std.proofs.lemmas.Bool.Decides.{nat_tests}
 use Rattle.model_events.specs.declared.event.Wake.{Wake}
 use Rattle.running_model.specs.Turns.{IsOverAside}
 use Rattle.running_model.proofs.Holding.{holding_told, holding_is}
-use Rattle.running_rw_hold.specs.RwReading.{MayLook, MayEnter}
 use Rattle.running_rw_reader.specs.RwReaderParties.{has_hold, Unlocks}
 
 abbrev Comes : Coming ℕ → Call ℕ → RwReaderPlace → List (Slot ℕ) → Parties ℕ → Type 0
@@ -26,88 +25,11 @@ unlock_begins : (kind : HoldKind) (done : List (Slot ℕ)) (p : Parties ℕ) →
     ComesBy rw_reader_model (Continuing Call.Unlock) Call.Unlock RwReaderPlace.Release (Some kind) done p
 unlock_begins kind done p holding = (refl, record { kind = kind; may = record { begins = refl; free = refl; values = tt }; kept = refl; holding = holding })
 
--- a reader's look
-
-may_load : (way : Coming ℕ) (call : Call ℕ) (place : RwReaderPlace) (done : List (Slot ℕ)) (p : Parties ℕ) → ◌≡◌ {A = Intent ℕ} (rw_reader_intent Word.State place None) (Intent.Load Word.State) →
-    Comes way call place done p → MayStep rw_reader_model (Word.State ∷ []) way 0 (λ w. Intent.Load w) p
-may_load way call place done p intends comes = record { call = call; place = place; hold = None; done = done; comes = comes; name = Word.State; named = refl; intends = intends; on = refl }
-
-pub may_look : (way : Coming ℕ) (p : Parties ℕ) → MayLook rw_reader_model RwReaderPlace.TryReadLook RwReaderPlace.ReadLook way p → MayStep rw_reader_model (Word.State ∷ []) way 0 (λ w. Intent.Load w) p
-may_look way p (inl may) = may_load way Call.TryReadLock RwReaderPlace.TryReadLook may.done p refl may.comes
-may_look way p (inr may) = may_load way Call.ReadLock (RwReaderPlace.ReadLook may.patience) may.done p refl may.comes
-
--- what a look of the model's function means, by whether it answers the next word
-
-pub reads_some : (seen to : ℕ) (answer : Option ℕ) → (seen < 2 ^ 64 - 2 → answer ≡ Some (seen + 1)) → (2 ^ 64 - 2 ≤ seen → answer ≡ None) → answer ≡ Some to → (seen < 2 ^ 64 - 2) × (to ≡ seen + 1)
-reads_some seen to answer one_more full is =
-    let not_full : 2 ^ 64 - 2 ≤ seen → ⊥ = λ above. let no = full above in cc in
-    let room : seen < 2 ^ 64 - 2 = omega (arith, not_full) in
-    (room, let more = one_more room in cc)
-
-pub reads_none : (seen : ℕ) (answer : Option ℕ) → (seen < 2 ^ 64 - 2 → answer ≡ Some (seen + 1)) → answer ≡ None → 2 ^ 64 - 2 ≤ seen
-reads_none seen answer one_more is = let no_room : seen < 2 ^ 64 - 2 → ⊥ = λ room. let more = one_more room in cc in omega (arith, no_room)
-
--- where no reader may enter, the call is refused, and where one may, it comes to an exchange
-
-abbrev LooksOnce : ℕ → List (Slot ℕ) → Parties ℕ → Type 0
-LooksOnce seen done p = Leads rw_reader_model Call.TryReadLock (try_read_look seen) None done p
-
-pub turned_away : (seen : ℕ) (done : List (Slot ℕ)) (p : Parties ℕ) → 2 ^ 64 - 2 ≤ seen → LooksOnce seen done p → HasEnded rw_reader_model Call.TryReadLock Answer.Interrupted None done p
-turned_away seen done p h1 h2 = grind (arith, nat_tests, eqb-true, eqb-false)
-
-comes_once : (seen : ℕ) (done : List (Slot ℕ)) (p : Parties ℕ) → seen < 2 ^ 64 - 2 → LooksOnce seen done p → At Call.TryReadLock (RwReaderPlace.TryRead seen (seen + 1)) done p
-comes_once seen done p h1 h2 = grind (arith, nat_tests, eqb-true, eqb-false)
-
-abbrev Looks : Patience → ℕ → List (Slot ℕ) → Parties ℕ → Type 0
-Looks patience seen done p = Leads rw_reader_model Call.ReadLock (read_look patience seen) None done p
-
-pub found_shut : (patience : Patience) (seen : ℕ) (done : List (Slot ℕ)) (p : Parties ℕ) → 2 ^ 64 - 2 ≤ seen → Looks patience seen done p → IsRefused rw_reader_model Call.ReadLock RwReaderPlace.ReadLook patience seen done p
-found_shut patience seen done p h1 h2 = grind (arith, nat_tests, eqb-true, eqb-false)
-
-comes_to_read : (patience : Patience) (seen : ℕ) (done : List (Slot ℕ)) (p : Parties ℕ) → seen < 2 ^ 64 - 2 → Looks patience seen done p → At Call.ReadLock (RwReaderPlace.Read seen (seen + 1) patience) done p
-comes_to_read patience seen done p h1 h2 = grind (arith, nat_tests, eqb-true, eqb-false)
-
--- its exchange
-
-may_exchange : (call : Call ℕ) (place : RwReaderPlace) (done : List (Slot ℕ)) (p : Parties ℕ) (seen more : ℕ) → more ≡ seen + 1 → ◌≡◌ {A = Intent ℕ} (rw_reader_intent Word.State place None) (Intent.Exchange Word.State seen (seen + 1)) →
-    At call place done p → MayStep rw_reader_model (Word.State ∷ []) Going 0 (λ w. Intent.Exchange w seen more) p
-may_exchange call place done p seen more h1 h2 h3 = grind (arith, nat_tests, eqb-true, eqb-false)
-
-pub may_read : (seen more : ℕ) (p : Parties ℕ) → seen < 2 ^ 64 - 2 → more ≡ seen + 1 → MayEnter rw_reader_model RwReaderPlace.TryReadLook RwReaderPlace.ReadLook seen p → MayStep rw_reader_model (Word.State ∷ []) Going 0 (λ w. Intent.Exchange w seen more) p
-may_read seen more p room is (inl at) = may_exchange Call.TryReadLock (RwReaderPlace.TryRead seen (seen + 1)) at.0 p seen more is refl (comes_once seen at.0 p room at.1)
-may_read seen more p room is (inr at) = may_exchange Call.ReadLock (RwReaderPlace.Read seen (seen + 1) at.0) at.1 p seen more is refl (comes_to_read at.0 seen at.1 p room at.2)
-
-once_so : (seen found : ℕ) (b : Bool) (done : List (Slot ℕ)) (q : Parties ℕ) → (found == seen) ≡ b → Led rw_reader_model Call.TryReadLock (RwReaderPlace.TryRead seen (seen + 1)) None found done q →
-    MatchBool b (HasEnded rw_reader_model Call.TryReadLock Answer.Success (Some HoldKind.Read) done q) (HasEnded rw_reader_model Call.TryReadLock Answer.Interrupted None done q)
-once_so seen found b done q h1 h2 = grind (arith, nat_tests, eqb-true, eqb-false)
-
-pub read_once : (seen found : ℕ) (done : List (Slot ℕ)) (p q : Parties ℕ) → seen < 2 ^ 64 - 2 → LooksOnce seen done p → Went rw_reader_model Going p found q →
-    MatchBool (found == seen) (HasEnded rw_reader_model Call.TryReadLock Answer.Success (Some HoldKind.Read) done q) (HasEnded rw_reader_model Call.TryReadLock Answer.Interrupted None done q)
-read_once seen found done p q room at went = once_so seen found (found == seen) done q refl (went Call.TryReadLock (RwReaderPlace.TryRead seen (seen + 1)) None done (comes_once seen done p room at))
-
-read_so : (patience : Patience) (seen found : ℕ) (b : Bool) (done : List (Slot ℕ)) (q : Parties ℕ) → (found == seen) ≡ b → Led rw_reader_model Call.ReadLock (RwReaderPlace.Read seen (seen + 1) patience) None found done q →
-    MatchBool b (IsGranted rw_reader_model Call.ReadLock RwReaderPlace.ReadLook (Some HoldKind.Read) done q) (Looks patience found done q)
-read_so patience seen found b done q h1 h2 = grind (arith, nat_tests, eqb-true, eqb-false)
-
-pub read_goes : (patience : Patience) (seen found : ℕ) (done : List (Slot ℕ)) (p q : Parties ℕ) → seen < 2 ^ 64 - 2 → Looks patience seen done p → Went rw_reader_model Going p found q →
-    MatchBool (found == seen) (IsGranted rw_reader_model Call.ReadLock RwReaderPlace.ReadLook (Some HoldKind.Read) done q) (Looks patience found done q)
-read_goes patience seen found done p q room at went = read_so patience seen found (found == seen) done q refl (went Call.ReadLock (RwReaderPlace.Read seen (seen + 1) patience) None done (comes_to_read patience seen done p room at))
-
 -- a writer's exchange
 
 may_enter : (way : Coming ℕ) (call : Call ℕ) (place : RwReaderPlace) (done : List (Slot ℕ)) (p : Parties ℕ) (put : ℕ) → put ≡ 2 ^ 64 - 1 → ◌≡◌ {A = Intent ℕ} (rw_reader_intent Word.State place None) (Intent.Exchange Word.State 0 (2 ^ 64 - 1)) →
     Comes way call place done p → MayStep rw_reader_model (Word.State ∷ []) way 0 (λ w. Intent.Exchange w 0 put) p
-may_enter way call place done p put is intends comes = record {
-  call = call;
-  place = place;
-  hold = None;
-  done = done;
-  comes = comes;
-  name = Word.State;
-  named = refl;
-  intends = intends ∙ ap (λ (n : ℕ). Intent.Exchange Word.State 0 n) (sym is);
-  on = refl;
-}
+may_enter way call place done p put h1 h2 h3 = grind (arith, nat_tests, eqb-true, eqb-false)
 
 pub may_write_once : (p : Parties ℕ) (put : ℕ) → put ≡ 2 ^ 64 - 1 → MayStep rw_reader_model (Word.State ∷ []) (Beginning Call.TryWriteLock) 0 (λ w. Intent.Exchange w 0 put) p
 may_write_once p put is = may_enter _ Call.TryWriteLock RwReaderPlace.TryWrite (all_of p) p put is refl (try_write_begins p)
@@ -124,8 +46,7 @@ wrote_once p q went = went Call.TryWriteLock RwReaderPlace.TryWrite None (all_of
 
 once_missed : (found : ℕ) (b : Bool) (p q : Parties ℕ) → (found == 0) ≡ b → b ≡ false → Led rw_reader_model Call.TryWriteLock RwReaderPlace.TryWrite None found (all_of p) q →
     HasCalled rw_reader_model Call.TryWriteLock Answer.Interrupted None p q
-once_missed found true p q test miss led = absurd cc
-once_missed found false p q test miss led = rw test at led
+once_missed found b p q h1 h2 h3 = grind (arith, nat_tests, eqb-true, eqb-false)
 
 pub missed_once : (found : ℕ) (p q : Parties ℕ) → found ≢ 0 → Went rw_reader_model (Beginning Call.TryWriteLock) p found q → HasCalled rw_reader_model Call.TryWriteLock Answer.Interrupted None p q
 missed_once found p q miss went = once_missed found (found == 0) p q refl (ne_eqb found 0 miss) (went Call.TryWriteLock RwReaderPlace.TryWrite None (all_of p) (try_write_begins p))
@@ -136,8 +57,7 @@ has_written way p q went patience done comes = went Call.WriteLock (RwReaderPlac
 
 refused_so : (found : ℕ) (b : Bool) (patience : Patience) (done : List (Slot ℕ)) (q : Parties ℕ) → (found == 0) ≡ b → b ≡ false →
     Led rw_reader_model Call.WriteLock (RwReaderPlace.Write patience) None found done q → IsRefused rw_reader_model Call.WriteLock RwReaderPlace.Write patience found done q
-refused_so found true patience done q test miss led = absurd cc
-refused_so found false patience done q test miss led = rw test at led
+refused_so found b patience done q h1 h2 h3 = grind (arith, nat_tests, eqb-true, eqb-false)
 
 pub found_taken : (way : Coming ℕ) (found : ℕ) (p q : Parties ℕ) → found ≢ 0 → Went rw_reader_model way p found q → (patience : Patience) (done : List (Slot ℕ)) → Comes way Call.WriteLock (RwReaderPlace.Write patience) done p →
     IsRefused rw_reader_model Call.WriteLock RwReaderPlace.Write patience found done q

@@ -3,4 +3,3 @@ pub mod RwWriterKeeps
 pub mod RwWriterCounts
 pub mod RwWriterTries
 pub mod RwWriterPlays
-pub mod RwWriterUnlocks

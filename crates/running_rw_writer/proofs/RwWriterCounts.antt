@@ -1,5 +1,5 @@
 -- After each step of a writer-preferring lock its passes were granted as often as calls were in the run.
-use Rattle.running_rw_writer.specs.Names.{Word, Call, HoldKind, Intent, RwWriterPlace, rw_writer_grant, rw_writer_table, Sights, seen_instead, View, Parties, is_kind, Coming, IsStepAt, sum_of, GoesOnCounting, none_played, both_played, MarkedHolds, both_marked, AreGrantsByKindIn, RwWriterAgrees, nothing_marked, rw_writer_model}
+use Rattle.running_rw_writer.specs.Names.{Word, Call, HoldKind, Intent, RwWriterPlace, rw_writer_grant, rw_writer_table, Sights, seen_instead, View, Parties, is_kind, Coming, IsStepAt, GoesOnCounting, MarkedHolds, both_marked, AreGrantsByKindIn, RwWriterAgrees, rw_writer_model}
 use Rattle.running_rw_writer.proofs.Names.{◌≡◌, ◌≢◌, ℕ, ◌+◌, ◌-◌, ◌%◌, ◌^◌, ◌<◌, ◌==◌, Bool, true, false, cond, List, [], ◌∷◌, Option, Some, None, inl, inr, refl, ap, sym, subst, ◌∙◌, arith, eqb-true, eqb-false, IsExchange, IsWriterIntent}
 use Rattle.model_events.specs.declared.event.Act.{Act}
 use Rattle.model_events.specs.declared.event.Event.{Event}
@@ -9,7 +9,7 @@ use Rattle.model_events.specs.Integers.{u64_arithmetic}
 use Rattle.model_rw_writer.proofs.PlaceLaws.{writer_intent, here}
 use Rattle.running_model.specs.Sums.{grants_by, no_kind, next_grants}
 use Rattle.running_model.proofs.OfARun.{of_a_run}
-use Rattle.running_rw_writer.specs.RwWriterSteps.{IsMarked, Loaded, LoadedToWrite, IsSeenByWriter, ReaderIn, ReaderOut, WriterIn, WriterOut, SetsMark, TakesMark, Unchanged, GrantsAreOfARun}
+use Rattle.running_rw_writer.specs.RwWriterSteps.{IsMarked, IsSeenByWriter, ReaderIn, WriterIn, SetsMark, TakesMark}
 
 -- the step on the word at this index goes on counting so
 abbrev Counting : Coming ℕ → ℕ → (Word → Intent ℕ) → Parties ℕ → View MarkedHolds → (ℕ → View MarkedHolds → Type 0) → Type 0
@@ -42,43 +42,6 @@ Grantless (Act.Load w seen) = Unit {0}
 Grantless (Act.Store w put) = Unit {0}
 Grantless (Act.Add w old put) = Unit {0}
 Grantless other = ⊥
-
-grantless : (kind : HoldKind) (act : Act ℕ) (pending : Option (PendingCall ℕ)) → Grantless act → grants_by rw_writer_table kind act pending ≡ 0
-grantless kind (Act.Load w seen) pending is = no_kind kind
-grantless kind (Act.Store w put) pending is = no_kind kind
-grantless kind (Act.Add w old put) pending is = no_kind kind
-grantless kind other pending is = absurd is
-
-grants_none : (past : List (Event ℕ)) (e : Event ℕ) (act : Act ℕ) (t u rest : MarkedHolds) → e.act ≡ act → Grantless act → u.read_grants ≡ t.read_grants → u.write_grants ≡ t.write_grants →
-    AreGrantsByKindIn rw_writer_table past (both_marked t rest) → AreGrantsByKindIn rw_writer_table (e ∷ past) (both_marked u rest)
-grants_none past e act t u rest acted without reads writes is =
-    let none : (kind : HoldKind) → granted kind past e ≡ 0 = λ kind. grantless kind e.act (call_of e.party past) (subst Grantless (sym acted) without) in
-    next past e t u rest 0 0 (none HoldKind.Read) (none HoldKind.Write) (no_more t u reads writes) is
-
-pub load_counts : (way : Coming ℕ) (p : Parties ℕ) (v : View MarkedHolds) → Counting way 0 (λ w. Intent.Load w) p v (Loaded v)
-load_counts way p v call place hold done comes past e found step name named act rest w told still is =
-    grants_none past e (Act.Load name found) v.tally w.tally rest act tt (ap (λ (u : View MarkedHolds). u.tally.read_grants) told.saw) (ap (λ (u : View MarkedHolds). u.tally.write_grants) told.saw) is
-
-pub load_to_write_counts : (way : Coming ℕ) (p : Parties ℕ) (v : View MarkedHolds) → Counting way 0 (λ w. Intent.Load w) p v (LoadedToWrite v)
-load_to_write_counts way p v call place hold done comes past e found step name named act rest w told still is =
-    grants_none past e (Act.Load name found) v.tally w.tally rest act tt (ap (λ (u : View MarkedHolds). u.tally.read_grants) told.sees) (ap (λ (u : View MarkedHolds). u.tally.write_grants) told.sees) is
-
-pub reader_out_counts : (way : Coming ℕ) (p : Parties ℕ) (v : View MarkedHolds) → Counting way 0 (λ w. Intent.Subtract w 2) p v (ReaderOut v)
-reader_out_counts way p v call place hold done comes past e found step name named act rest w told still is =
-    grants_none past e (Act.Add name found ((found + (2 ^ 64 - 2)) % 2 ^ 64)) v.tally w.tally rest act tt
-    (ap (λ (u : View MarkedHolds). u.tally.read_grants) told.done) (ap (λ (u : View MarkedHolds). u.tally.write_grants) told.done) is
-
-pub writer_out_counts : (way : Coming ℕ) (p : Parties ℕ) (v : View MarkedHolds) → Counting way 0 (λ w. Intent.Store w 0) p v (λ _. WriterOut v)
-writer_out_counts way p v call place hold done comes past e found step name named act rest w told still is =
-    grants_none past e (Act.Store name 0) v.tally w.tally rest act tt (ap (λ (u : View MarkedHolds). u.tally.read_grants) told.done) (ap (λ (u : View MarkedHolds). u.tally.write_grants) told.done) is
-
-pub count_load_counts : (way : Coming ℕ) (p : Parties ℕ) (v : View MarkedHolds) → Counting way 1 (λ w. Intent.Load w) p v (λ _. Unchanged v)
-count_load_counts way p v call place hold done comes past e found step name named act rest w told still is =
-    grants_none past e (Act.Load name found) v.tally w.tally rest act tt (ap (λ (u : View MarkedHolds). u.tally.read_grants) told) (ap (λ (u : View MarkedHolds). u.tally.write_grants) told) is
-
-pub count_add_counts : (way : Coming ℕ) (p : Parties ℕ) (v : View MarkedHolds) → Counting way 1 (λ w. Intent.Add w 1) p v (λ _. Unchanged v)
-count_add_counts way p v call place hold done comes past e found step name named act rest w told still is =
-    grants_none past e (Act.Add name found ((found + 1) % 2 ^ 64)) v.tally w.tally rest act tt (ap (λ (u : View MarkedHolds). u.tally.read_grants) told) (ap (λ (u : View MarkedHolds). u.tally.write_grants) told) is
 
 -- Exchanges: what one may be at the place where its call is tells what it grants.
 
@@ -202,5 +165,3 @@ unmark_counts way p v from to set less call place hold done comes past e found s
     (λ miss. saw_more v found (seen_instead v.sights from found) w (told.failed miss))
     is
 
-pub grants_are_of_a_run : GrantsAreOfARun
-grants_are_of_a_run s r = of_a_run rw_writer_model (Word.State ∷ Word.Counter ∷ []) RwWriterAgrees (AreGrantsByKindIn rw_writer_table) s.words s.homes (sum_of (none_played nothing_marked) (both_played both_marked) s.views) r.agree

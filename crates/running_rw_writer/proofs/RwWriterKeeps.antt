@@ -6,7 +6,7 @@ use prog.Atomic.{either}
 use Rattle.running_passes.proofs.Sums.{sum_of_two}
 use Rattle.running_passes.proofs.Updates.{by_look, by_exchange}
 use Rattle.running_tallies.specs.RwWriterTally.{marked_add_up}
-use Rattle.running_rw_writer.specs.RwWriterSteps.{PlayedRwWriter, NoHoldBesideTheWriter, NoMarkWithoutAFlag, IsMarked, word_of, read, no_more_read, written, no_more_written, flagged, SaysAlone, Loaded, IsSeenByWriter, LoadedToWrite, ReaderIn, ReaderOut, WriterIn, WriterOut, SetsMark, TakesMark, Unchanged}
+use Rattle.running_rw_writer.specs.RwWriterSteps.{PlayedRwWriter, NoHoldBesideTheWriter, NoMarkWithoutAFlag, IsMarked, word_of, read, written, flagged, SaysAlone, Loaded, IsSeenByWriter, LoadedToWrite, ReaderIn, WriterIn, SetsMark, TakesMark}
 use Rattle.running_tallies.specs.HeldKeeps.{comes_in, goes_out, takes_over, steps_down, parts, only_writes, only_reads}
 
 -- how many holds stand, as the word of a lock without a mark would say it
@@ -118,31 +118,6 @@ readers_in v old new even room more = by_exchange nothing_marked both_marked RwW
       },
     ))
 
-pub readers_out : (v : View MarkedHolds) → 0 < read_holds v.tally.held → Updates nothing_marked both_marked RwWriterAgrees v 0 (λ x. (x + (2 ^ 64 - 2)) % 2 ^ 64) (ReaderOut v)
-readers_out v some = record {
-  may = λ words homes rest is alone fits.
-      let x : ℕ = get_or words 0 0 in
-      let word = is.word_is in
-      let all = parts same_nothing tells_same_nothing tt v.tally.held rest.held is.knows in
-      let unwritten = only_reads tt (both_holds v.tally.held rest.held) is.knows (omega (arith, all.reads, some)) in
-      let step = goes_out same_nothing tells_same_nothing tt (holds_say (both_holds v.tally.held rest.held)) v.tally.held rest.held (locks_of words (both_marked v.tally rest) is) some in
-      let holds = step.locks.word_is in let fewer = step.locks.room in
-      let left : ℕ = (x + (2 ^ 64 - 2)) % 2 ^ 64 in (
-        wrote (looked v x) (no_more_read v.tally),
-        refl,
-        again words left is.mark (both_marked v.tally rest) (both_marked (no_more_read v.tally) rest) is (omega (arith, word, unwritten, fits, holds, fewer, is.room, all.reads, some)) (omega (arith, is.one_mark, unwritten, holds, fewer, is.room))
-            is.flagged (omega (arith, is.room, unwritten, holds, fewer)) step.locks.knows,
-        record {
-          done = refl;
-          reads = step.reads;
-          writes = (step.no_writer, step.still_none);
-          some = omega (arith, word, all.reads, some);
-          unwritten = omega (arith, word, unwritten, is.one_mark, is.room);
-          alone = alone_is words v rest is alone;
-        },
-      );
-}
-
 pub writers_in : (v : View MarkedHolds) (old new : ℕ) → old < 2 → new ≡ 2 ^ 64 - 1 → Updates nothing_marked both_marked RwWriterAgrees v 0 (λ x. either (eqb x old) new x) (WriterIn old v)
 writers_in v old new free all = by_exchange nothing_marked both_marked RwWriterAgrees v 0 old new (WriterIn old v)
     (λ words homes rest is alone fits hit.
@@ -160,18 +135,6 @@ writers_in v old new free all = by_exchange nothing_marked both_marked RwWriterA
       u.2,
       record { done = λ hit. absurd (miss hit); failed = λ _. u.3; alone = alone_is words v rest is alone },
     ))
-
-pub writers_out : (v : View MarkedHolds) → write_holds v.tally.held ≡ 1 → Updates nothing_marked both_marked RwWriterAgrees v 0 (λ _. 0) (λ _. WriterOut v)
-writers_out v on = record {
-  may = λ words homes rest is alone fits.
-      let left = steps_down same_nothing tells_same_nothing tt (holds_say (both_holds v.tally.held rest.held)) v.tally.held rest.held (locks_of words (both_marked v.tally rest) is) on in
-      let holds = left.word_is in (
-        wrote v (no_more_written v.tally),
-        refl,
-        again words 0 0 (both_marked v.tally rest) (both_marked (no_more_written v.tally) rest) is (omega (arith, holds)) (omega (arith, holds)) (omega arith) (omega (arith, holds)) left.knows,
-        record { done = refl; reads = only_writes tt v.tally.held (parts same_nothing tells_same_nothing tt v.tally.held rest.held is.knows).first on },
-      );
-}
 
 pub marks_set : (v : View MarkedHolds) (old new : ℕ) → old % 2 ≡ 0 → old ≢ 2 ^ 64 - 2 → new ≡ old + 1 → Updates nothing_marked both_marked RwWriterAgrees v 0 (λ x. either (eqb x old) new x) (SetsMark old v)
 marks_set v old new even other more = by_exchange nothing_marked both_marked RwWriterAgrees v 0 old new (SetsMark old v)
@@ -204,27 +167,6 @@ marks_taken v old new set less = by_exchange nothing_marked both_marked RwWriter
     ))
 
 -- the wake counter
-
-pub counts_load : (v : View MarkedHolds) → Updates nothing_marked both_marked RwWriterAgrees v 1 (λ x. x) (λ _. Unchanged v)
-counts_load v = by_look nothing_marked both_marked RwWriterAgrees v 1 (λ _. Unchanged v) (λ words homes rest is alone fits. (v, refl, is, refl))
-
-pub counts_add : (v : View MarkedHolds) → Updates nothing_marked both_marked RwWriterAgrees v 1 (λ x. (x + 1) % 2 ^ 64) (λ _. Unchanged v)
-counts_add v = record {
-  may = λ words homes rest is alone fits. let more : ℕ = (get_or words 1 0 + 1) % 2 ^ 64 in (
-    v,
-    refl,
-    record {
-      two_words = length-set words 1 more ∙ is.two_words;
-      mark = is.mark;
-      word_is = get_or-set_other words 1 0 more 0 (λ same. absurd (omega (arith, same))) ∙ is.word_is;
-      one_mark = is.one_mark;
-      flagged = is.flagged;
-      room = is.room;
-      knows = is.knows;
-    },
-    refl,
-  );
-}
 
 -- beside a write hold the others have none
 pub none_beside : NoHoldBesideTheWriter

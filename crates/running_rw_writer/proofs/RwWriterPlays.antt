@@ -1,5 +1,5 @@
 -- The steps of a writer-preferring lock are those of its table.
-use Rattle.running_rw_writer.specs.Names.{nat_lt, MatchBool, WaitAction, Word, Call, Answer, HoldKind, Patience, Intent, After, Leaver, RwWriterPlace, rw_writer_intent, rw_writer_grant, lets_writer_in, lets_mark, is_marked, is_blocked, try_read_look, read_look, spins, marks_or_spins, unmarks_or_leaves, write_refused, write_look, last_look, released, woken_all, rw_writer_model, Slot, Parties, all_of, IsNamed, IsStepOn, Coming, Going, Beginning, Continuing, Answered, ComesBy, IsHolding, Led, HasCalled, HasEnded, spun, IsRefused, IsGranted, StandsToWait, IsToWake, rw_writer_handed}
+use Rattle.running_rw_writer.specs.Names.{nat_lt, MatchBool, WaitAction, Word, Call, Answer, HoldKind, Patience, Intent, After, Leaver, RwWriterPlace, rw_writer_intent, rw_writer_grant, is_marked, is_blocked, try_read_look, read_look, spins, marks_or_spins, unmarks_or_leaves, write_look, last_look, released, woken_all, rw_writer_model, Slot, Parties, all_of, IsNamed, IsStepOn, Coming, Going, Beginning, Continuing, Answered, ComesBy, IsHolding, Led, HasCalled, HasEnded, spun, StandsToWait, rw_writer_handed}
 use Rattle.running_rw_writer.proofs.Names.{eqb-false, eqb-true, ◌≡◌, ◌≢◌, ℕ, ◌+◌, ◌-◌, ◌%◌, ◌^◌, ◌<◌, ◌≤◌, ◌==◌, Bool, true, false, cond, refl, sym, subst, ◌∙◌, List, [], ◌∷◌, Option, Some, None, arith, ne_eqb, eqb_same, is_marking, is_over, inl, inr}
 use Rattle.std.proofs.lemmas.Bool.Decides.{nat_tests}
 use Rattle.model_events.specs.declared.event.Wake.{Wake}
@@ -7,7 +7,7 @@ use Rattle.running_model.specs.Turns.{IsToWakeAgain, IsOver, IsOverAside, IsOver
 use Rattle.running_model.proofs.Holding.{holding_told, holding_is}
 use Rattle.running_rw_hold.specs.RwReading.{MayLook, MayEnter}
 use Rattle.running_rw_writer.specs.RwWriterSteps.{IsMarked}
-use Rattle.running_rw_writer.specs.RwWriterShown.{IsOpen, IsShut}
+use Rattle.running_rw_writer.specs.RwWriterShown.{IsOpen}
 use Rattle.running_rw_writer.specs.RwWriterParties.{has_hold, TableHas, TableLed, CallGoes, WriteGoes, GoesFromTo, SomeCallGoes, ComesToWrite, ComesToGiveUp, WriteIsGranted, IsToWakeBoth, Unlocks, unlocked}
 
 abbrev Comes : Coming ℕ → Call ℕ → RwWriterPlace → List (Slot ℕ) → Parties ℕ → Type 0
@@ -21,17 +21,8 @@ Ended call answer hold done p = HasEnded rw_writer_model call answer hold done p
 lt_true : (m n : ℕ) → m < n → nat_lt m n ≡ true
 lt_true m n below = grind (arith, nat_tests)
 
-lt_false : (m n : ℕ) → n ≤ m → nat_lt m n ≡ false
-lt_false m n above = grind (arith, nat_tests)
-
 hit : (m n : ℕ) → m ≡ n → (m == n) ≡ true
 hit m n is = subst (λ k. (k == n) ≡ true) (sym is) (eqb_same n)
-
-markable : (w : ℕ) → w % 2 ≡ 0 → w ≢ 2 ^ 64 - 2 → lets_mark w ≡ true
-markable w even other = rw (even, ne_eqb w (2 ^ 64 - 2) other) refl
-
-unmarkable : (w : ℕ) → (w % 2 ≡ 0 → w ≢ 2 ^ 64 - 2 → ⊥) → lets_mark w ≡ false
-unmarkable w h1 = grind (arith, nat_tests, eqb-true, eqb-false)
 
 marked_word : (w : ℕ) → IsMarked w → is_marked w ≡ true
 marked_word w set = rw (set.odd, ne_eqb w (2 ^ 64 - 1) set.unwritten) refl
@@ -90,14 +81,8 @@ may_look_to_read way p (inr may) = may_look way Call.ReadLock (RwWriterPlace.Rea
 
 -- where no reader may enter, the call is refused, and where one may, it comes to an exchange
 
-pub turned_away : (seen : ℕ) (done : List (Slot ℕ)) (p : Parties ℕ) → IsShut seen → CallGoes Call.TryReadLock (try_read_look seen) done p → CallGoes Call.TryReadLock (After.Ends Answer.Interrupted) done p
-turned_away seen done p h1 h2 = grind (arith, nat_tests, eqb-true, eqb-false)
-
 comes_once : (seen : ℕ) (done : List (Slot ℕ)) (p : Parties ℕ) → IsOpen seen → CallGoes Call.TryReadLock (try_read_look seen) done p → CallGoes Call.TryReadLock (After.At (RwWriterPlace.TryRead seen (seen + 2))) done p
 comes_once seen done p h1 h2 = grind (arith, nat_tests, eqb-true, eqb-false)
-
-pub found_shut : (patience : Patience) (seen : ℕ) (done : List (Slot ℕ)) (p : Parties ℕ) → IsShut seen → CallGoes Call.ReadLock (read_look patience seen) done p → IsRefused rw_writer_model Call.ReadLock RwWriterPlace.ReadLook patience seen done p
-found_shut patience seen done p h1 h2 = grind (arith, nat_tests, eqb-true, eqb-false)
 
 comes_to_read : (patience : Patience) (seen : ℕ) (done : List (Slot ℕ)) (p : Parties ℕ) → IsOpen seen → CallGoes Call.ReadLock (read_look patience seen) done p → CallGoes Call.ReadLock (After.At (RwWriterPlace.Read seen (seen + 2) patience)) done p
 comes_to_read patience seen done p h1 h2 = grind (arith, nat_tests, eqb-true, eqb-false)
@@ -107,22 +92,6 @@ comes_to_read patience seen done p h1 h2 = grind (arith, nat_tests, eqb-true, eq
 pub may_read : (seen more : ℕ) (p : Parties ℕ) → IsOpen seen → more ≡ seen + 2 → MayEnter rw_writer_model RwWriterPlace.TryReadLook RwWriterPlace.ReadLook seen p → TableHas Going 0 (λ w. Intent.Exchange w seen more) p
 may_read seen more p room is (inl at) = may_exchange Going Call.TryReadLock (RwWriterPlace.TryRead seen (seen + 2)) at.0 p seen (seen + 2) more is refl (comes_once seen at.0 p room at.1)
 may_read seen more p room is (inr at) = may_exchange Going Call.ReadLock (RwWriterPlace.Read seen (seen + 2) at.0) at.1 p seen (seen + 2) more is refl (comes_to_read at.0 seen at.1 p room at.2)
-
-once_so : (seen found : ℕ) (b : Bool) (done : List (Slot ℕ)) (q : Parties ℕ) → (found == seen) ≡ b → Led rw_writer_model Call.TryReadLock (RwWriterPlace.TryRead seen (seen + 2)) None found done q →
-    MatchBool b (Ended Call.TryReadLock Answer.Success (Some HoldKind.Read) done q) (Ended Call.TryReadLock Answer.Interrupted None done q)
-once_so seen found b done q h1 h2 = grind (arith, nat_tests, eqb-true, eqb-false)
-
-pub read_once : (seen found : ℕ) (done : List (Slot ℕ)) (p q : Parties ℕ) → IsOpen seen → CallGoes Call.TryReadLock (try_read_look seen) done p → TableLed Going p found q →
-    MatchBool (found == seen) (Ended Call.TryReadLock Answer.Success (Some HoldKind.Read) done q) (Ended Call.TryReadLock Answer.Interrupted None done q)
-read_once seen found done p q room at went = once_so seen found (found == seen) done q refl (went Call.TryReadLock (RwWriterPlace.TryRead seen (seen + 2)) None done (comes_once seen done p room at))
-
-read_so : (patience : Patience) (seen found : ℕ) (b : Bool) (done : List (Slot ℕ)) (q : Parties ℕ) → (found == seen) ≡ b → Led rw_writer_model Call.ReadLock (RwWriterPlace.Read seen (seen + 2) patience) None found done q →
-    MatchBool b (IsGranted rw_writer_model Call.ReadLock RwWriterPlace.ReadLook (Some HoldKind.Read) done q) (CallGoes Call.ReadLock (read_look patience found) done q)
-read_so patience seen found b done q h1 h2 = grind (arith, nat_tests, eqb-true, eqb-false)
-
-pub read_goes : (patience : Patience) (seen found : ℕ) (done : List (Slot ℕ)) (p q : Parties ℕ) → IsOpen seen → CallGoes Call.ReadLock (read_look patience seen) done p → TableLed Going p found q →
-    MatchBool (found == seen) (IsGranted rw_writer_model Call.ReadLock RwWriterPlace.ReadLook (Some HoldKind.Read) done q) (CallGoes Call.ReadLock (read_look patience found) done q)
-read_goes patience seen found done p q room at went = read_so patience seen found (found == seen) done q refl (went Call.ReadLock (RwWriterPlace.Read seen (seen + 2) patience) None done (comes_to_read patience seen done p room at))
 
 -- a writer that tries once
 
@@ -141,24 +110,7 @@ wrote_once found p q went = wrote_so found (found == 0) (all_of p) q refl (went 
 pub granted_has : (call : Call ℕ) (kind : HoldKind) (done : List (Slot ℕ)) (q : Parties ℕ) → Ended call Answer.Success (Some kind) done q → has_hold kind q ≡ true
 granted_has call kind done q ended = holding_is rw_writer_model kind done q ended.rests
 
--- a writer's looks
-
-pub may_look_to_write : (way : Coming ℕ) (patience : Patience) (done : List (Slot ℕ)) (p : Parties ℕ) → Comes way Call.WriteLock (RwWriterPlace.WriteLook patience) done p → TableHas way 0 (λ w. Intent.Load w) p
-may_look_to_write way patience done p comes = may_look way Call.WriteLock (RwWriterPlace.WriteLook patience) done p refl comes
-
-pub looked_to_write : (way : Coming ℕ) (found : ℕ) (p q : Parties ℕ) → TableLed way p found q → (patience : Patience) (done : List (Slot ℕ)) → Comes way Call.WriteLock (RwWriterPlace.WriteLook patience) done p → WriteGoes (write_look patience found) done q
-looked_to_write way found p q went patience done comes = went Call.WriteLock (RwWriterPlace.WriteLook patience) None done comes
-
 -- it enters
-
-pub comes_to_enter : (patience : Patience) (seen : ℕ) (done : List (Slot ℕ)) (p : Parties ℕ) → seen < 2 → WriteGoes (write_look patience seen) done p → WriteGoes (After.At (RwWriterPlace.Enter seen patience)) done p
-comes_to_enter patience seen done p free at = when_true Call.WriteLock (lets_writer_in seen) (After.At (RwWriterPlace.Enter seen patience)) (write_refused patience seen) done p (lt_true seen 2 free) at
-
-pub may_enter : (patience : Patience) (seen : ℕ) (done : List (Slot ℕ)) (p : Parties ℕ) → WriteGoes (After.At (RwWriterPlace.Enter seen patience)) done p → (put : ℕ) → put ≡ 2 ^ 64 - 1 → TableHas Going 0 (λ w. Intent.Exchange w seen put) p
-may_enter patience seen done p at put is = may_exchange Going Call.WriteLock (RwWriterPlace.Enter seen patience) done p seen (2 ^ 64 - 1) put is refl at
-
-pub enter_refused : (patience : Patience) (seen : ℕ) (done : List (Slot ℕ)) (p : Parties ℕ) → 2 ≤ seen → WriteGoes (write_look patience seen) done p → WriteGoes (write_refused patience seen) done p
-enter_refused patience seen done p held at = when_false Call.WriteLock (lets_writer_in seen) (After.At (RwWriterPlace.Enter seen patience)) (write_refused patience seen) done p (lt_false seen 2 held) at
 
 enter_so : (patience : Patience) (seen found : ℕ) (done : List (Slot ℕ)) (q : Parties ℕ) → (found == seen) ≡ true → rw_writer_grant {T = ℕ} Call.WriteLock seen (2 ^ 64 - 1) ≡ Some HoldKind.Write →
     Led rw_writer_model Call.WriteLock (RwWriterPlace.Enter seen patience) None found done q → WriteIsGranted done q
@@ -167,30 +119,10 @@ enter_so patience seen found done q test grants led = rw (test, grants) at led
 pub entered : (patience : Patience) (seen found : ℕ) (done : List (Slot ℕ)) (p q : Parties ℕ) → seen < 2 → found ≡ seen → WriteGoes (After.At (RwWriterPlace.Enter seen patience)) done p → TableLed Going p found q → WriteIsGranted done q
 entered patience seen found done p q free is at went = enter_so patience seen found done q (hit found seen is) (enters seen free) (went Call.WriteLock (RwWriterPlace.Enter seen patience) None done at)
 
-enter_missed_so : (patience : Patience) (seen found : ℕ) (done : List (Slot ℕ)) (q : Parties ℕ) → (found == seen) ≡ false →
-    Led rw_writer_model Call.WriteLock (RwWriterPlace.Enter seen patience) None found done q → WriteGoes (write_refused patience found) done q
-enter_missed_so patience seen found done q test led = rw test at led
-
-pub enter_missed : (patience : Patience) (seen found : ℕ) (done : List (Slot ℕ)) (p q : Parties ℕ) → found ≢ seen → WriteGoes (After.At (RwWriterPlace.Enter seen patience)) done p → TableLed Going p found q → WriteGoes (write_refused patience found) done q
-enter_missed patience seen found done p q miss at went = enter_missed_so patience seen found done q (ne_eqb found seen miss) (went Call.WriteLock (RwWriterPlace.Enter seen patience) None done at)
-
 -- it marks
-
-comes_to_mark : (patience : Patience) (seen : ℕ) (done : List (Slot ℕ)) (p : Parties ℕ) → seen % 2 ≡ 0 → seen ≢ 2 ^ 64 - 2 → WriteGoes (marks_or_spins patience seen) done p → WriteGoes (After.At (RwWriterPlace.Mark seen (seen + 1) patience)) done p
-comes_to_mark patience seen done p even other at = when_true Call.WriteLock (lets_mark seen) (After.At (RwWriterPlace.Mark seen (seen + 1) patience)) (spins patience) done p (markable seen even other) at
-
-pub marks_none : (patience : Patience) (seen : ℕ) (done : List (Slot ℕ)) (p : Parties ℕ) → (seen % 2 ≡ 0 → seen ≢ 2 ^ 64 - 2 → ⊥) → WriteGoes (marks_or_spins patience seen) done p → WriteGoes (spins patience) done p
-marks_none patience seen done p never at = when_false Call.WriteLock (lets_mark seen) (After.At (RwWriterPlace.Mark seen (seen + 1) patience)) (spins patience) done p (unmarkable seen never) at
-
-pub may_mark : (patience : Patience) (seen put : ℕ) (done : List (Slot ℕ)) (p : Parties ℕ) → seen % 2 ≡ 0 → seen ≢ 2 ^ 64 - 2 → put ≡ seen + 1 → WriteGoes (marks_or_spins patience seen) done p → TableHas Going 0 (λ w. Intent.Exchange w seen put) p
-may_mark patience seen put done p even other is at = may_exchange Going Call.WriteLock (RwWriterPlace.Mark seen (seen + 1) patience) done p seen (seen + 1) put is refl (comes_to_mark patience seen done p even other at)
 
 pub marked : (patience : Patience) (seen found : ℕ) (done : List (Slot ℕ)) (p q : Parties ℕ) → seen % 2 ≡ 0 → seen ≢ 2 ^ 64 - 2 → found ≡ seen → WriteGoes (marks_or_spins patience seen) done p → TableLed Going p found q → WriteGoes (spins patience) done q
 marked patience seen found done p q h1 h2 h3 h4 h5 = grind (arith, nat_tests, eqb-true, eqb-false)
-
-pub mark_missed : (patience : Patience) (seen found : ℕ) (done : List (Slot ℕ)) (p q : Parties ℕ) → seen % 2 ≡ 0 → seen ≢ 2 ^ 64 - 2 → found ≢ seen → WriteGoes (marks_or_spins patience seen) done p → TableLed Going p found q →
-    WriteGoes (write_look patience found) done q
-mark_missed patience seen found done p q h1 h2 h3 h4 h5 = grind (arith, nat_tests, eqb-true, eqb-false)
 
 -- it spins, and then loads the counter and looks a last time
 
@@ -199,15 +131,6 @@ spins_on n done p below at = when_true Call.WriteLock (nat_lt n 10000) (After.At
 
 pub all_spun : (n : ℕ) (done : List (Slot ℕ)) (p : Parties ℕ) → n ≡ 10000 → WriteGoes (spins (spun n)) done p → WriteGoes (After.At (RwWriterPlace.LoadCounter (spun 10000))) done p
 all_spun n done p all at = subst (λ (k : ℕ). WriteGoes (spins (spun k)) done p) all at
-
-pub may_load_count : (patience : Patience) (done : List (Slot ℕ)) (p : Parties ℕ) → WriteGoes (After.At (RwWriterPlace.LoadCounter patience)) done p → TableHas Going 1 (λ w. Intent.Load w) p
-may_load_count patience done p at = has_step Going 1 (λ w. Intent.Load w) Call.WriteLock (RwWriterPlace.LoadCounter patience) None done p Word.Counter refl refl refl at
-
-pub counter_loaded : (found : ℕ) (p q : Parties ℕ) → TableLed Going p found q → (patience : Patience) → GoesFromTo Call.WriteLock (After.At (RwWriterPlace.LoadCounter patience)) (After.At (RwWriterPlace.LastLook found patience)) p q
-counter_loaded found p q went patience = λ done at. went Call.WriteLock (RwWriterPlace.LoadCounter patience) None done at
-
-pub may_look_last : (count : ℕ) (patience : Patience) (done : List (Slot ℕ)) (p : Parties ℕ) → WriteGoes (After.At (RwWriterPlace.LastLook count patience)) done p → TableHas Going 0 (λ w. Intent.Load w) p
-may_look_last count patience done p at = may_look Going Call.WriteLock (RwWriterPlace.LastLook count patience) done p refl at
 
 pub looked_last : (count found : ℕ) (p q : Parties ℕ) → TableLed Going p found q → (patience : Patience) → GoesFromTo Call.WriteLock (After.At (RwWriterPlace.LastLook count patience)) (last_look count patience found) p q
 looked_last count found p q went patience = λ done at. went Call.WriteLock (RwWriterPlace.LastLook count patience) None done at
@@ -242,52 +165,13 @@ aborted count done p at = record { stood = RwWriterPlace.WriteLook (spun 10000);
 comes_to_unmark : (seen : ℕ) (done : List (Slot ℕ)) (p : Parties ℕ) → IsMarked seen → WriteGoes (unmarks_or_leaves seen) done p → WriteGoes (After.At (RwWriterPlace.Unmark seen (seen - 1))) done p
 comes_to_unmark seen done p set at = when_true Call.WriteLock (is_marked seen) (After.At (RwWriterPlace.Unmark seen (seen - 1))) (After.Ends Answer.Interrupted) done p (marked_word seen set) at
 
-pub leaves : (seen : ℕ) (done : List (Slot ℕ)) (p : Parties ℕ) → ¬ IsMarked seen → WriteGoes (unmarks_or_leaves seen) done p → WriteGoes (After.Ends Answer.Interrupted) done p
-leaves seen done p unset at = when_false Call.WriteLock (is_marked seen) (After.At (RwWriterPlace.Unmark seen (seen - 1))) (After.Ends Answer.Interrupted) done p (unmarked_word seen unset) at
-
 pub may_unmark : (seen put : ℕ) (done : List (Slot ℕ)) (p : Parties ℕ) → IsMarked seen → put ≡ seen - 1 → WriteGoes (unmarks_or_leaves seen) done p → TableHas Going 0 (λ w. Intent.Exchange w seen put) p
 may_unmark seen put done p set is at = may_exchange Going Call.WriteLock (RwWriterPlace.Unmark seen (seen - 1)) done p seen (seen - 1) put is refl (comes_to_unmark seen done p set at)
 
-pub unmarked : (seen found : ℕ) (p q : Parties ℕ) → IsMarked seen → found ≡ seen → TableLed Going p found q → GoesFromTo Call.WriteLock (unmarks_or_leaves seen) (After.At (RwWriterPlace.Count Leaver.GivenUp)) p q
-unmarked seen found p q h1 h2 h3 = grind (arith, nat_tests, eqb-true, eqb-false)
-
-pub unmark_missed : (seen found : ℕ) (p q : Parties ℕ) → IsMarked seen → found ≢ seen → TableLed Going p found q → GoesFromTo Call.WriteLock (unmarks_or_leaves seen) (unmarks_or_leaves found) p q
-unmark_missed seen found p q h1 h2 h3 = grind (arith, nat_tests, eqb-true, eqb-false)
-
 -- the counter's add, and the wakes
-
-pub may_count : (who : Leaver) (p : Parties ℕ) → SomeCallGoes (After.At (RwWriterPlace.Count who)) p → TableHas Going 1 (λ w. Intent.Add w 1) p
-may_count who p is = has_step Going 1 (λ w. Intent.Add w 1) is.call (RwWriterPlace.Count who) None is.done p Word.Counter refl refl refl is.at
 
 pub counted : (found : ℕ) (p q : Parties ℕ) → TableLed Going p found q → (call : Call ℕ) (who : Leaver) → GoesFromTo call (After.At (RwWriterPlace.Count who)) (After.At (RwWriterPlace.WakeOne who)) p q
 counted found p q went call who = λ done at. went call (RwWriterPlace.Count who) None done at
-
-pub is_to_wake : (i : ℕ) (who : Leaver) (p : Parties ℕ) → i ≡ 1 → SomeCallGoes (After.At (RwWriterPlace.WakeOne who)) p → IsToWake rw_writer_model (Word.State ∷ Word.Counter ∷ []) rw_writer_handed i p
-is_to_wake i who p is goes = record {
-  call = goes.call;
-  place = RwWriterPlace.WakeOne who;
-  hold = None;
-  done = goes.done;
-  at = goes.at;
-  who = Wake.One;
-  wakes = refl;
-  word = subst (λ (n : ℕ). IsNamed (Word.State ∷ Word.Counter ∷ []) n Word.Counter) (sym is) refl;
-}
-
-pub is_to_wake_again : (j : ℕ) (p : Parties ℕ) → j ≡ 0 → IsToWakeBoth p → IsToWakeAgain rw_writer_model (Word.State ∷ Word.Counter ∷ []) rw_writer_handed j p
-is_to_wake_again j p is both = record {
-  call = both.wakes.call;
-  place = RwWriterPlace.WakeOne both.who;
-  hold = None;
-  done = both.wakes.done;
-  at = both.wakes.at;
-  aside = tt;
-  later = RwWriterPlace.WakeAll both.who;
-  goes_on = both.both;
-  who = Wake.All;
-  wakes = refl;
-  word = subst (λ (n : ℕ). IsNamed (Word.State ∷ Word.Counter ∷ []) n Word.State) (sym is) refl;
-}
 
 -- who has woken all is answered so
 abbrev ended_by : Leaver → Answer ℕ
@@ -350,14 +234,8 @@ wakes_writer found last p q r is saw goes on = λ done holding. wakes_so last do
 
 -- another reader is answered
 
-leaves_so : (found : ℕ) (done : List (Slot ℕ)) (q : Parties ℕ) → (found == 3) ≡ false → CallGoes Call.Unlock (After.Ends Answer.Done) done q → CallGoes Call.Unlock (unlocked HoldKind.Read found) done q
-leaves_so found done q test at = rw test at
-
 ends_reading : (found : ℕ) (done : List (Slot ℕ)) (q : Parties ℕ) → found ≢ 3 → CallGoes Call.Unlock (released (Some found)) done q → CallGoes Call.Unlock (After.Ends Answer.Done) done q
 ends_reading found done q other at = when_false Call.Unlock (found == 3) (After.At (RwWriterPlace.Count Leaver.Reader)) (After.Ends Answer.Done) done q (ne_eqb found 3 other) at
-
-pub other_reader : (found last : ℕ) (p q : Parties ℕ) → found ≢ 3 → last ≡ found → Unlocks HoldKind.Read (released (Some found)) p q → Unlocks HoldKind.Read (unlocked HoldKind.Read last) p q
-other_reader found last p q other saw goes = λ done holding. leaves_so last done q (ne_eqb last 3 (λ is. other (sym saw ∙ is))) (ends_reading found done q other (goes done holding))
 
 pub other_is_over : (found : ℕ) (p q : Parties ℕ) → found ≢ 3 → has_hold HoldKind.Read p ≡ true → Unlocks HoldKind.Read (released (Some found)) p q → IsOver rw_writer_model q
 other_is_over found p q other has goes = is_over rw_writer_model Call.Unlock Answer.Done None p.resting q (ends_reading found p.resting q other (goes p.resting (holding_told rw_writer_model HoldKind.Read p has)))

@@ -4,9 +4,6 @@ use Rattle.running_rw_reader.specs.RwReaderParties.{has_hold, Unlocks}
 use Rattle.running_rw_reader.proofs.RwReaderPlays.{is_to_wake, unlock_is_over}
 use Rattle.running_rw_reader.proofs.RwLockReaderPreference.unlock_read.Goals as goal
 
-pub leave_reading-turn-requires-clause-has : goal.leave_reading-turn-requires-clause-has
-leave_reading-turn-requires-clause-has g c = subst (λ p. has_hold HoldKind.Read (parties_of p) ≡ true) (sym c.begin_held-begun.ensures.still) c.requires.has
-
 pub wake-woken-requires-clause-wakes : goal.wake-woken-requires-clause-wakes
 wake-woken-requires-clause-wakes g c = is_to_wake HoldKind.Read _ _ _ c.word.ensures.index (subst (λ p. has_hold HoldKind.Read (parties_of p) ≡ true) (sym c.begin_held-begun.ensures.still) c.requires.has) c.leave_reading-turn.ensures.played
 

@@ -1,55 +1,20 @@
 use Rattle.running_rw_writer.specs.Names.{Call, Answer, HoldKind, Pass, parties_of, rw_writer_model}
-use Rattle.running_rw_writer.proofs.Names.{Some, ◌∙◌, sym, subst, is_over}
+use Rattle.running_rw_writer.proofs.Names.{Some, sym, subst, is_over}
 use Rattle.running_rw_writer.specs.RwWriterSteps.{PlayedRwWriter}
 use Rattle.running_rw_writer.specs.RwWriterParties.{given_up, WriteIsGranted}
-use Rattle.running_rw_writer.specs.RwWriterShown.{HasEnteredSeenFree}
-use Rattle.running_rw_writer.proofs.RwWriterTries.{entered_after, tried_again, gave_up_after}
 use Rattle.running_rw_writer.proofs.RwLockWriterPreference.enter_or_give_up.Goals as goal
-
-pub look_to_write-seen-requires-clause-comes : goal.look_to_write-seen-requires-clause-comes
-look_to_write-seen-requires-clause-comes g c = let w = c.requires.at in (given_up, w.0, w.1)
-
-pub enter_if_free-requires-clause-own : goal.enter_if_free-requires-clause-own
-enter_if_free-requires-clause-own g c = c.look_to_write-seen.ensures.tried.same.0 ∙ c.requires.own
-
-pub enter_if_free-requires-clause-just : goal.enter_if_free-requires-clause-just
-enter_if_free-requires-clause-just g c = c.look_to_write-seen.ensures.just
 
 pub enter_if_free-requires-clause-at : goal.enter_if_free-requires-clause-at
 enter_if_free-requires-clause-at g c = let w = c.requires.at in (given_up, w.0, c.look_to_write-seen.ensures.looked given_up w.0 w.1)
 
-pub end-requires-clause-own : goal.end-requires-clause-own
-end-requires-clause-own g c = c.in-Ok.ensures.entered.0.same.0 ∙ c.look_to_write-seen.ensures.tried.same.0 ∙ c.requires.own
-
 pub end-requires-clause-over : goal.end-requires-clause-over
 end-requires-clause-over g c = let w = c.requires.at in is_over rw_writer_model Call.WriteLock Answer.Success (Some HoldKind.Write) w.0 _ (c.in-Ok.ensures.granted given_up w.0 (c.look_to_write-seen.ensures.looked given_up w.0 w.1))
-
-pub give_up-requires-clause-own : goal.give_up-requires-clause-own
-give_up-requires-clause-own g c = c.in-Err.ensures.refused.0.same.0 ∙ c.look_to_write-seen.ensures.tried.same.0 ∙ c.requires.own
-
-pub give_up-requires-clause-just : goal.give_up-requires-clause-just
-give_up-requires-clause-just g c = c.in-Err.ensures.refused.1
-
-pub give_up-requires-clause-cause : goal.give_up-requires-clause-cause
-give_up-requires-clause-cause g c = c.in-Err.ensures.refused.2
 
 pub give_up-requires-clause-at : goal.give_up-requires-clause-at
 give_up-requires-clause-at g c = let w = c.requires.at in (w.0, c.in-Err.ensures.goes_on given_up w.0 (c.look_to_write-seen.ensures.looked given_up w.0 w.1))
 
-pub returns-in-Ok-clause-entered : goal.returns-in-Ok-clause-entered
-returns-in-Ok-clause-entered g c = subst (λ (q : Pass PlayedRwWriter). HasEnteredSeenFree c.args.turn.pass.now q) (sym c.end.ensures.still) (entered_after 1 _ _ _ c.look_to_write-seen.ensures.tried c.in-Ok.ensures.entered)
-
 pub returns-in-Ok-clause-played : goal.returns-in-Ok-clause-played
 returns-in-Ok-clause-played g c = λ done comes. subst (λ (q : Pass PlayedRwWriter). WriteIsGranted done (parties_of q)) (sym c.end.ensures.still) (c.in-Ok.ensures.granted given_up done (c.look_to_write-seen.ensures.looked given_up done comes))
 
-pub returns-in-Ok-clause-woke : goal.returns-in-Ok-clause-woke
-returns-in-Ok-clause-woke g c = λ no. absurd cc
-
-pub returns-in-Err-clause-entered : goal.returns-in-Err-clause-entered
-returns-in-Err-clause-entered g c = gave_up_after 1 0 _ _ _ (tried_again 1 0 _ _ _ c.look_to_write-seen.ensures.tried c.in-Err.ensures.refused.0) c.give_up.ensures.gave_up
-
 pub returns-in-Err-clause-played : goal.returns-in-Err-clause-played
 returns-in-Err-clause-played g c = λ done comes. c.give_up.ensures.played done (c.in-Err.ensures.goes_on given_up done (c.look_to_write-seen.ensures.looked given_up done comes))
-
-pub returns-in-Err-clause-woke : goal.returns-in-Err-clause-woke
-returns-in-Err-clause-woke g c = λ _. c.give_up.ensures.woke

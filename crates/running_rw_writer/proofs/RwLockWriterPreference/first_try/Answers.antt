@@ -1,19 +1,9 @@
 use Rattle.running_rw_writer.specs.Names.{spins, Pass, all_of, spun, parties_of}
-use Rattle.running_rw_writer.proofs.Names.{◌≡◌, true, MatchBool, subst}
+use Rattle.running_rw_writer.proofs.Names.{MatchBool, subst}
 use Rattle.running_rw_writer.specs.RwWriterSteps.{PlayedRwWriter}
 use Rattle.running_rw_writer.specs.RwWriterParties.{WriteGoes, WriteIsGranted}
-use Rattle.running_rw_writer.specs.RwWriterShown.{IsAloneWithin, HasEnteredSeenFree, HasTried}
 use Rattle.running_rw_writer.proofs.RwWriterPlays.{write_begins}
 use Rattle.running_rw_writer.proofs.RwLockWriterPreference.first_try.Goals as goal
 
-pub enter_or_mark-requires-clause-at : goal.enter_or_mark-requires-clause-at
-enter_or_mark-requires-clause-at g c = (0, _, write_begins _)
-
-pub returns-clause-entered : goal.returns-clause-entered
-returns-clause-entered g c = subst (λ (p : Pass PlayedRwWriter). MatchBool c.enter_or_mark.result.0 (HasEnteredSeenFree p c.enter_or_mark.result.1.pass.now) (HasTried 1 p c.enter_or_mark.result.1.pass.now)) c.begin_new-begun.ensures.still c.enter_or_mark.ensures.entered
-
 pub returns-clause-played : goal.returns-clause-played
 returns-clause-played g c = subst (λ (p : Pass PlayedRwWriter). MatchBool c.enter_or_mark.result.0 (WriteIsGranted (all_of (parties_of p)) (parties_of c.enter_or_mark.result.1.pass.now)) (WriteGoes (spins (spun 0)) (all_of (parties_of p)) (parties_of c.enter_or_mark.result.1.pass.now))) c.begin_new-begun.ensures.still (c.enter_or_mark.ensures.played 0 _ (write_begins _))
-
-pub returns-clause-exact : goal.returns-clause-exact
-returns-clause-exact g c = subst (λ (p : Pass PlayedRwWriter). IsAloneWithin p → c.enter_or_mark.result.0 ≡ true) c.begin_new-begun.ensures.still c.enter_or_mark.ensures.exact

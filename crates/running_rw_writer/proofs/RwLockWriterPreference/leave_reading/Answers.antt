@@ -1,17 +1,8 @@
-use Rattle.running_rw_writer.specs.Names.{Call, parties_of, counted, Continuing}
-use Rattle.running_rw_writer.proofs.RwWriterCounts.{reader_out_counts}
-use Rattle.running_rw_writer.proofs.RwWriterKeeps.{readers_out}
 use Rattle.running_rw_writer.proofs.RwWriterPlays.{may_leave_reading, leaves_reading}
 use Rattle.running_rw_writer.proofs.RwLockWriterPreference.leave_reading.Goals as goal
 
 pub subtract_by-requires-clause-may : goal.subtract_by-requires-clause-may
 subtract_by-requires-clause-may g c = may_leave_reading _ c.requires.has
-
-pub subtract_by-requires-clause-update : goal.subtract_by-requires-clause-update
-subtract_by-requires-clause-update g c = readers_out _ c.requires.on
-
-pub subtract_by-requires-clause-follow : goal.subtract_by-requires-clause-follow
-subtract_by-requires-clause-follow g c = reader_out_counts (Continuing Call.Unlock) (parties_of c.args.turn.pass.now) (counted c.args.turn.pass.now)
 
 pub returns-clause-played : goal.returns-clause-played
 returns-clause-played g c = leaves_reading _ _ _ c.subtract_by.ensures.went

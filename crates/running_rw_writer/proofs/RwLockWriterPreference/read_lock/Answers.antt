@@ -1,8 +1,4 @@
-use Rattle.running_rw_writer.specs.Names.{Call, Answer, HoldKind}
-use Rattle.running_rw_writer.proofs.Names.{Some, refl, sym, ap, subst, arith}
-use mathlib.Core.Option as maybe
-use Rattle.running_rw_writer.specs.declared.pass.RwWriterPass.{RwWriterPass}
-use Rattle.running_rw_writer.specs.RwWriterShown.{pass_in, HasEnteredToRead, HasPlayed}
+use Rattle.running_rw_writer.proofs.Names.{refl}
 use Rattle.running_rw_writer.proofs.RwLockWriterPreference.read_lock.Goals as goal
 
 pub returns : goal.returns
@@ -20,23 +16,3 @@ returns g c =
         aborted = c.wait_to_read.ensures.aborted c.if-wait_to_read.false;
       },
     )
-
-pub read_hold-requires-clause-on : goal.read_hold-requires-clause-on
-read_hold-requires-clause-on g c = omega (arith, c.if-wait_to_read.ensures.entered.counts.reads)
-
-pub read_hold-requires-clause-has : goal.read_hold-requires-clause-has
-read_hold-requires-clause-has g c = c.wait_to_read.ensures.has c.if-wait_to_read.true
-
-pub returns-then-wait_to_read : goal.returns-then-wait_to_read
-returns-then-wait_to_read g c = (
-  (ap maybe.some (sym c.read_hold.ensures.same_reference), λ _. refl, tt),
-  record {
-    refused = tt;
-    same_borrow = c.read_hold.ensures.same_reference;
-    kind = tt;
-    granted = subst (λ (p : RwWriterPass). HasEnteredToRead (pass_in c.args.pass.now) (pass_in p)) (sym c.read_hold.ensures.same_pass) c.if-wait_to_read.ensures.entered;
-    played = subst (λ (p : RwWriterPass). HasPlayed Call.ReadLock Answer.Success (Some HoldKind.Read) (pass_in c.args.pass.now) (pass_in p)) (sym c.read_hold.ensures.same_pass) c.if-wait_to_read.ensures.played;
-    exact = λ _. tt;
-    aborted = tt;
-  },
-)

@@ -1,12 +1,8 @@
 use Rattle.running_rw_writer.specs.Names.{parties_of, counted, Going}
 use Rattle.running_rw_writer.proofs.RwWriterCounts.{mark_counts}
 use Rattle.running_rw_writer.proofs.RwWriterKeeps.{marks_set}
-use Rattle.running_rw_writer.proofs.RwWriterPlays.{may_mark, marked, mark_missed}
-use Rattle.running_rw_writer.proofs.RwWriterTries.{missed_it}
+use Rattle.running_rw_writer.proofs.RwWriterPlays.{marked}
 use Rattle.running_rw_writer.proofs.RwLockWriterPreference.set_mark.Goals as goal
-
-pub exchange_by-found-requires-clause-may : goal.exchange_by-found-requires-clause-may
-exchange_by-found-requires-clause-may g c = may_mark c.requires.at.0 _ _ c.requires.at.1 _ c.requires.even c.requires.other c.requires.marked c.requires.at.2
 
 pub exchange_by-found-requires-clause-update : goal.exchange_by-found-requires-clause-update
 exchange_by-found-requires-clause-update g c = marks_set _ _ _ c.requires.even c.requires.other c.requires.marked
@@ -16,9 +12,3 @@ exchange_by-found-requires-clause-follow g c = mark_counts Going (parties_of c.a
 
 pub returns-then-found-seen-clause-spins : goal.returns-then-found-seen-clause-spins
 returns-then-found-seen-clause-spins g c = λ patience done at. marked patience _ _ done _ _ c.requires.even c.requires.other c.if-found-seen.true at c.exchange_by-found.ensures.went
-
-pub returns-else-found-seen-clause-looks : goal.returns-else-found-seen-clause-looks
-returns-else-found-seen-clause-looks g c = λ patience done at. mark_missed patience _ _ done _ _ c.requires.even c.requires.other c.if-found-seen.false at c.exchange_by-found.ensures.went
-
-pub returns-else-found-seen-clause-missed : goal.returns-else-found-seen-clause-missed
-returns-else-found-seen-clause-missed g c = missed_it _ _ _ _ c.exchange_by-found.ensures.same c.requires.just (c.exchange_by-found.ensures.told.failed c.if-found-seen.false)

@@ -1,16 +1,10 @@
 use Rattle.running_rw_writer.proofs.Names.{arith, ◌+◌, ◌∙◌, MatchBool-at_true, MatchBool-at_false}
 use Rattle.running_rw_writer.proofs.RwWriterPlays.{spins_on, all_spun}
-use Rattle.running_rw_writer.proofs.RwWriterTries.{tried_again, entered_after}
+use Rattle.running_rw_writer.proofs.RwWriterTries.{tried_again}
 use Rattle.running_rw_writer.proofs.RwLockWriterPreference.spin_to_write.Goals as goal
-
-pub enter_or_mark-entered-requires-clause-own : goal.enter_or_mark-entered-requires-clause-own
-enter_or_mark-entered-requires-clause-own g c = c.loop.invariant.tried.same.0 ∙ c.requires.own
 
 pub enter_or_mark-entered-requires-clause-at : goal.enter_or_mark-entered-requires-clause-at
 enter_or_mark-entered-requires-clause-at g c = let w = c.requires.at in (c.loop.counter + 1, w.0, spins_on c.loop.counter w.0 _ c.loop-test.true (c.loop.invariant.at w.0 w.1))
-
-pub returns-then-entered-clause-entered : goal.returns-then-entered-clause-entered
-returns-then-entered-clause-entered g c = entered_after c.loop.counter _ _ _ c.loop.invariant.tried (MatchBool-at_true _ _ c.if-entered.true c.enter_or_mark-entered.ensures.entered)
 
 pub returns-then-entered-clause-played : goal.returns-then-entered-clause-played
 returns-then-entered-clause-played g c = λ done at. MatchBool-at_true _ _ c.if-entered.true (c.enter_or_mark-entered.ensures.played (c.loop.counter + 1) done (spins_on c.loop.counter done _ c.loop-test.true (c.loop.invariant.at done at)))

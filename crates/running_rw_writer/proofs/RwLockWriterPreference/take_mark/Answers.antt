@@ -1,8 +1,7 @@
 use Rattle.running_rw_writer.specs.Names.{parties_of, counted, Going}
 use Rattle.running_rw_writer.proofs.RwWriterCounts.{unmark_counts}
 use Rattle.running_rw_writer.proofs.RwWriterKeeps.{marks_taken}
-use Rattle.running_rw_writer.proofs.RwWriterPlays.{may_unmark, unmarked, unmark_missed}
-use Rattle.running_rw_writer.proofs.RwWriterTries.{missed_it}
+use Rattle.running_rw_writer.proofs.RwWriterPlays.{may_unmark}
 use Rattle.running_rw_writer.proofs.RwLockWriterPreference.take_mark.Goals as goal
 
 pub exchange_by-found-requires-clause-may : goal.exchange_by-found-requires-clause-may
@@ -13,12 +12,3 @@ exchange_by-found-requires-clause-update g c = marks_taken _ _ _ c.requires.set 
 
 pub exchange_by-found-requires-clause-follow : goal.exchange_by-found-requires-clause-follow
 exchange_by-found-requires-clause-follow g c = unmark_counts Going (parties_of c.args.turn.pass.now) (counted c.args.turn.pass.now) _ _ c.requires.set c.requires.unmarked
-
-pub returns-then-found-seen-clause-counts : goal.returns-then-found-seen-clause-counts
-returns-then-found-seen-clause-counts g c = unmarked _ _ _ _ c.requires.set c.if-found-seen.true c.exchange_by-found.ensures.went
-
-pub returns-else-found-seen-clause-looks : goal.returns-else-found-seen-clause-looks
-returns-else-found-seen-clause-looks g c = unmark_missed _ _ _ _ c.requires.set c.if-found-seen.false c.exchange_by-found.ensures.went
-
-pub returns-else-found-seen-clause-missed : goal.returns-else-found-seen-clause-missed
-returns-else-found-seen-clause-missed g c = missed_it _ _ _ _ c.exchange_by-found.ensures.same c.requires.just (c.exchange_by-found.ensures.told.failed c.if-found-seen.false)

@@ -2,14 +2,8 @@ use Rattle.running_rw_writer.specs.Names.{Pass, parties_of}
 use Rattle.running_rw_writer.proofs.Names.{◌∙◌, sym, subst}
 use Rattle.running_rw_writer.specs.RwWriterParties.{IsToWakeBoth}
 use Rattle.running_rw_writer.specs.RwWriterSteps.{PlayedRwWriter}
-use Rattle.running_rw_writer.proofs.RwWriterPlays.{is_to_wake, is_to_wake_again, both_are_over}
+use Rattle.running_rw_writer.proofs.RwWriterPlays.{both_are_over}
 use Rattle.running_rw_writer.proofs.RwLockWriterPreference.wake_both.Goals as goal
-
-pub wake-one-requires-clause-wakes : goal.wake-one-requires-clause-wakes
-wake-one-requires-clause-wakes g c = is_to_wake _ c.requires.wakes.who _ c.counter.ensures.index c.requires.wakes.wakes
-
-pub wake_again-both-requires-clause-wakes : goal.wake_again-both-requires-clause-wakes
-wake_again-both-requires-clause-wakes g c = is_to_wake_again _ _ c.word.ensures.index (subst (λ (p : Pass PlayedRwWriter). IsToWakeBoth (parties_of p)) (sym c.wake-one.ensures.still) c.requires.wakes)
 
 pub end_after_two-requires-clause-over : goal.end_after_two-requires-clause-over
 end_after_two-requires-clause-over g c = both_are_over _ (subst (λ (p : Pass PlayedRwWriter). IsToWakeBoth (parties_of p)) (sym (c.wake_again-both.ensures.still ∙ c.wake-one.ensures.still)) c.requires.wakes)

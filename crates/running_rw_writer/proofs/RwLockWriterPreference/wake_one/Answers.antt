@@ -2,11 +2,8 @@ use Rattle.running_rw_writer.specs.Names.{After, Leaver, RwWriterPlace, Pass, pa
 use Rattle.running_rw_writer.proofs.Names.{sym, subst}
 use Rattle.running_rw_writer.specs.RwWriterParties.{SomeCallGoes}
 use Rattle.running_rw_writer.specs.RwWriterSteps.{PlayedRwWriter}
-use Rattle.running_rw_writer.proofs.RwWriterPlays.{is_to_wake, reader_is_over}
+use Rattle.running_rw_writer.proofs.RwWriterPlays.{reader_is_over}
 use Rattle.running_rw_writer.proofs.RwLockWriterPreference.wake_one.Goals as goal
-
-pub wake-woken-requires-clause-wakes : goal.wake-woken-requires-clause-wakes
-wake-woken-requires-clause-wakes g c = is_to_wake _ Leaver.Reader _ c.counter.ensures.index c.requires.wakes
 
 pub end_aside-requires-clause-over : goal.end_aside-requires-clause-over
 end_aside-requires-clause-over g c = reader_is_over _ (subst (λ (p : Pass PlayedRwWriter). SomeCallGoes (After.At (RwWriterPlace.WakeOne Leaver.Reader)) (parties_of p)) (sym c.wake-woken.ensures.still) c.requires.wakes)

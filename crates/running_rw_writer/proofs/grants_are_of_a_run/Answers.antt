@@ -1,5 +1,0 @@
-use Rattle.running_rw_writer.proofs.RwWriterCounts.{grants_are_of_a_run}
-use Rattle.running_rw_writer.proofs.grants_are_of_a_run.Goals as goal
-
-pub returns : goal.returns
-returns g = grants_are_of_a_run
