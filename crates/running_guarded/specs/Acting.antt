@@ -1,23 +1,33 @@
 -- What a closure did that acts on a value, or cannot yet.
-use Rattle.running_guarded.specs.Names.{ℕ, MutBor, Mut, CalledAtMut, Option}
+use Rattle.std.specs.Prelude.{ℕ, Some, None}
+use Rattle.running_passes.specs.declared.wait.WaitResult.{WaitResult}
+use Rattle.running_passes.specs.declared.wait.WaitResult.TheVariants.{Success, Interrupted}
+use Rattle.running_guarded.specs.Names.{MutBor, Mut, CalledAtMut, Option, Often}
 use Rattle.running_guarded.specs.declared.when.Looked.{Looked}
 use Rattle.running_guarded.specs.declared.when.Looked.TheVariants.{Acted, Again, GaveUp}
 
--- By what the closure promises of its calls, one of them gave this answer, in some state of the closure, and made some value of the one
--- that it was lent.
-pub record HasAnswered {F T X : Type 0} (g : Mut F (MutBor T × Unit {0}) (Option X × (MutBor T × Unit {0}))) (answer : Option X) : Type 0 where
-  pub before : F
-  pub after : F
-  pub found : T
-  pub left : T
-  pub says : CalledAtMut g before found answer after left
+module _ {F T X : Type 0} (g : Mut F (MutBor T × Unit {0}) (Option X × (MutBor T × Unit {0}))) where
+  -- By what the closure promises of its calls, one in this state gave this answer and left it in that; and it made some value of the one that it
+  -- was lent.
+  pub record HasAnswered (answer : Option X) (before after : F) : Type 0 where
+    pub found : T
+    pub left : T
+    pub says : CalledAtMut g before found answer after left
+
+  -- it was called so often in a row and could not act, and then once more, which gave this answer
+  abbrev pub HasAnsweredAfter : ℕ → Option X → F → Type 0
+  HasAnsweredAfter declined answer act = (last : F) × (after : F) × Often (HasAnswered None) declined act last × HasAnswered answer last after
 
 module _ {X : Type 0} where
-  -- P holds of what was given
-  abbrev pub IfActed : Looked X → (X → Type 0) → Type 0
-  IfActed (Acted x) P = P x
-  IfActed Again P = Unit {0}
-  IfActed GaveUp P = Unit {0}
+  -- what the closure gave, if it acted
+  abbrev pub given_by : Looked X → Option X
+  given_by (Acted x) = Some x
+  given_by Again = None
+  given_by GaveUp = None
+
+  abbrev pub answer_of : WaitResult X → Option X
+  answer_of (Success x) = Some x
+  answer_of Interrupted = None
 
   -- P holds where it gave up
   abbrev pub IfGaveUp : Looked X → Type 0 → Type 0

@@ -8,7 +8,7 @@ ghost use Rattle.running_mutex.specs.Often.{HasWaitedOften};
 ghost use Rattle.running_spin_lock.specs.ValueSteps.{Lets, has_vacant_slot};
 ghost use Rattle.running_guarded.specs.GuardedSteps.{Acts, PlaysUnlock, PlaysBoth};
 ghost use Rattle.running_guarded.specs.GuardedShown.{IsGuardedPass, HasStayed, HasLockedOnce, HasLockedOften, grants_of, object_of, number_of, view, id_of};
-ghost use Rattle.running_guarded.specs.Acting.{HasAnswered, IfActed, IfGaveUp, waits_of};
+ghost use Rattle.running_guarded.specs.Acting.{HasAnswered, HasAnsweredAfter, answer_of, given_by, IfGaveUp, waits_of};
 
 use crate::guarded::{Guarded, go_on};
 use crate::pass::GuardedPass;
@@ -59,10 +59,8 @@ impl<T: Drop, A: Allocator> Guarded<T, A> {
         requires may { K.IsAlwaysCallable wake_one × W.IsAlwaysCallable wait × F.IsAlwaysCallable act }
         ensures stayed { HasStayed pass.old pass.new }
         ensures waited { HasWaitedAtMost changed_pass.old changed_pass.new }
-        ensures acted { IfSuccess result (λ given. HasAnswered F.FnMut (Some given)) }
-        ensures declined { IfInterrupted result (HasAnswered F.FnMut None) }
         ensures aborted { IfInterrupted result (MayAnswerAbort W.Fn wait IsEmpty) }
-        ensures looked { (waits : ℕ) × HasLockedOften (suc waits) pass.old pass.new × HasWaitedOften changed.now waits changed_pass.old changed_pass.new }
+        ensures looked { (waits : ℕ) × HasLockedOften (suc waits) pass.old pass.new × HasWaitedOften changed.now waits changed_pass.old changed_pass.new × HasAnsweredAfter F.FnMut waits (answer_of result) act }
         ensures looked_again { IfInterrupted result (grants_of pass.old + 2 ≤ grants_of pass.new) }
         ensures woke { HasWoken K.Fn wake_one }
     {
@@ -71,12 +69,7 @@ impl<T: Drop, A: Allocator> Guarded<T, A> {
             match self.look(rt, pass, &wake_one, changed, changed_pass, &wait, &mut act) {
                 Looked::Acted(given) => return WaitResult::Success(given),
                 Looked::Again => {}
-                Looked::GaveUp => {
-                    return match self.look_last(rt, pass, &wake_one, &mut act) {
-                        Some(given) => WaitResult::Success(given),
-                        None => WaitResult::Interrupted,
-                    };
-                }
+                Looked::GaveUp => return self.look_last(rt, pass, &wake_one, &mut act),
             }
         }
         unreachable!()
@@ -144,7 +137,7 @@ impl<T: Drop, A: Allocator> Guarded<T, A> {
         ensures callable { F.IsAlwaysCallable act.new }
         ensures stayed { HasStayed pass.old pass.new }
         ensures waited { HasWaitedAtMost changed_pass.old changed_pass.new }
-        ensures acted { IfActed result (λ given. HasAnswered F.FnMut (Some given)) }
+        ensures called { HasAnswered F.FnMut (given_by result) act.old act.new }
         ensures aborted { IfGaveUp result (MayAnswerAbort W.Fn wait.now IsEmpty) }
         ensures granted { grants_of pass.new ≡ grants_of pass.old + 1 }
         ensures played { PlaysBoth (view pass.old) (view pass.new) }
@@ -230,11 +223,11 @@ impl<T: Drop, A: Allocator> Guarded<T, A> {
         pass: &mut GuardedPass,
         wake_one: &K,
         act: &mut F,
-    ) -> Option<X>
+    ) -> WaitResult<X>
         requires own { IsGuardedPass self.now pass.old }
         requires may { K.IsAlwaysCallable wake_one.now × F.IsAlwaysCallable act.old }
         ensures stayed { HasStayed pass.old pass.new }
-        ensures answered { HasAnswered F.FnMut result }
+        ensures called { HasAnswered F.FnMut (answer_of result) act.old act.new }
         ensures granted { grants_of pass.new ≡ grants_of pass.old + 1 }
         ensures played { PlaysBoth (view pass.old) (view pass.new) }
         ensures woke { HasWoken K.Fn wake_one.now }
@@ -242,6 +235,9 @@ impl<T: Drop, A: Allocator> Guarded<T, A> {
         let (seat, mut value) = self.enter_soon(pass.rise(), rt);
         let given = act(&mut value);
         *pass = self.sit(seat, value, wake_one);
-        given
+        match given {
+            Some(given) => WaitResult::Success(given),
+            None => WaitResult::Interrupted,
+        }
     }
 }

@@ -8,6 +8,7 @@ returns-in-Acted-clause-looked g c = let before = c.loop.invariant.looked in let
   before.0,
   locks_again before.0 _ c.loop.pass _ before.1 look.granted look.played,
   waits_no_more c.args.changed.now before.0 c.args.changed_pass.now c.loop.changed_pass c.look.new.changed_pass before.2 look.slept,
+  (c.loop.act, c.look.new.act, before.3, look.called),
 )
 
 pub loop-preserved : goal.loop-preserved
@@ -28,6 +29,7 @@ loop-preserved g c = let before = c.loop.invariant in let look = c.in-Again.ensu
     suc before.looked.0,
     locks_again before.looked.0 _ c.loop.pass _ before.looked.1 look.granted look.played,
     waits_again c.args.changed.now before.looked.0 c.args.changed_pass.now c.loop.changed_pass c.look.new.changed_pass before.looked.2 look.slept,
+    (c.loop.act, before.looked.3, look.called),
   );
   callable = look.callable;
 }
@@ -37,4 +39,5 @@ returns-in-GaveUp-clause-looked g c = let before = c.loop.invariant.looked in le
   suc before.0,
   locks_again (suc before.0) _ c.look.new.pass _ (locks_again before.0 _ c.loop.pass _ before.1 look.granted look.played) last.granted last.played,
   waits_again c.args.changed.now before.0 c.args.changed_pass.now c.loop.changed_pass c.look.new.changed_pass before.2 look.slept,
+  (c.look.new.act, c.look_last.new.act, (c.loop.act, before.3, look.called), last.called),
 )
