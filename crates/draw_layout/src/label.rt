@@ -1,7 +1,7 @@
 //! A step in words, and how it is marked.
 use crate::terms::{name_of, say_value};
 use crate::value::{DataWords, ends_a_value};
-use draw_story::story::{Step, Story};
+use draw_story::story::{Story, StoryStep};
 use std::alloc::{AllocError, Global};
 use sync_play::print::print_answer;
 use sync_steps::WaitAction;
@@ -187,7 +187,7 @@ fn say_change<T: Copy>(
 fn say_whole_value<T: TextInteger>(
     out: &mut String,
     story: &Story<T>,
-    step: &Step<T>,
+    step: &StoryStep<T>,
 ) -> Result<(), AllocError> {
     if !ends_a_value(&step.event.act) {
         return Ok(());
@@ -209,7 +209,7 @@ fn say_times(out: &mut String, count: u64) -> Result<(), AllocError> {
 fn say_step<T: TextInteger>(
     out: &mut String,
     story: &Story<T>,
-    step: &Step<T>,
+    step: &StoryStep<T>,
 ) -> Result<(), AllocError> {
     say_act(out, &story.object, &step.event.act)?;
     say_whole_value(out, story, step)?;
@@ -220,7 +220,7 @@ fn say_step<T: TextInteger>(
 pub fn label_of<T: TextInteger>(
     alloc: Global,
     story: &Story<T>,
-    step: &Step<T>,
+    step: &StoryStep<T>,
 ) -> Result<String, AllocError> {
     let mut out = String::new(alloc);
     say_step(&mut out, story, step)?;

@@ -3,7 +3,7 @@ ghost use Rattle.std.specs.Prelude.{◌<◌, ◌^◌, IfOk};
 
 use crate::label::{Reach, Tone, label_of, outcome_of, reach_of, tone_of};
 use crate::width::text_width;
-use draw_story::story::{Step, Story};
+use draw_story::story::{Story, StoryStep};
 use model_events::hold::HoldKind;
 use std::alloc::{AllocError, Global};
 use sync_steps::steps::{Act, Then};
@@ -67,7 +67,7 @@ impl Lane {
     }
 
     /// Adds what a step of its party did.
-    fn add<T: Copy>(&mut self, step: &Step<T>) -> Result<(), AllocError> {
+    fn add<T: Copy>(&mut self, step: &StoryStep<T>) -> Result<(), AllocError> {
         add_call(&mut self.calls, step)?;
         add_stand(&mut self.stands, step)?;
         add_hold(&mut self.holds, step.hold, step.row)?;
@@ -75,7 +75,7 @@ impl Lane {
     }
 
     /// Adds what a call saw last, where the step refuses it.
-    fn add_sight<T: Copy>(&mut self, step: &Step<T>) -> Result<(), AllocError> {
+    fn add_sight<T: Copy>(&mut self, step: &StoryStep<T>) -> Result<(), AllocError> {
         self.seen = seen_after(self.seen, step);
         if let Some(row) = self.seen
             && tone_of(&step.event.then) == Some(Tone::Refused)
@@ -111,7 +111,7 @@ impl Lane {
 fn step_width<T: TextInteger>(
     alloc: Global,
     story: &Story<T>,
-    step: &Step<T>,
+    step: &StoryStep<T>,
 ) -> Result<u32, AllocError> {
     let outcome_width = outcome_width(alloc, &step.event.then)?;
     let said_width = said_width(alloc, story, step)?;
@@ -122,7 +122,7 @@ fn step_width<T: TextInteger>(
 fn said_width<T: TextInteger>(
     alloc: Global,
     story: &Story<T>,
-    step: &Step<T>,
+    step: &StoryStep<T>,
 ) -> Result<u32, AllocError>
     ensures { IfOk result (λ width. width < 9000) }
 {
@@ -145,7 +145,7 @@ fn outcome_width<T: TextInteger>(alloc: Global, then: &Then<T>) -> Result<u32, A
 fn label_width<T: TextInteger>(
     alloc: Global,
     story: &Story<T>,
-    step: &Step<T>,
+    step: &StoryStep<T>,
 ) -> Result<u32, AllocError>
     ensures { IfOk result (λ width. width < 8000) }
 {
@@ -186,7 +186,7 @@ fn begin(spans: &mut Vec<Span>, row: u32) -> Result<(), AllocError> {
 }
 
 /// Begins a call or ends it, where a step does.
-fn add_call<T: Copy>(calls: &mut Vec<Span>, step: &Step<T>) -> Result<(), AllocError> {
+fn add_call<T: Copy>(calls: &mut Vec<Span>, step: &StoryStep<T>) -> Result<(), AllocError> {
     if let Act::Begun(_) = step.event.act {
         begin(calls, step.row)?;
     }
@@ -197,7 +197,7 @@ fn add_call<T: Copy>(calls: &mut Vec<Span>, step: &Step<T>) -> Result<(), AllocE
 }
 
 /// Ends a stand at a closure, and begins one where the call stands after a step.
-fn add_stand<T: Copy>(stands: &mut Vec<Span>, step: &Step<T>) -> Result<(), AllocError> {
+fn add_stand<T: Copy>(stands: &mut Vec<Span>, step: &StoryStep<T>) -> Result<(), AllocError> {
     end_last(stands, step.row);
     match step.event.then {
         Then::Waits(_) | Then::Chooses(_) => begin(stands, step.row),
@@ -247,7 +247,7 @@ fn add_hold(holds: &mut Vec<Hold>, held: Option<HoldKind>, row: u32) -> Result<(
 }
 
 /// The row of what a party has seen last, after a step.
-fn seen_after<T: Copy>(seen: Option<u32>, step: &Step<T>) -> Option<u32> {
+fn seen_after<T: Copy>(seen: Option<u32>, step: &StoryStep<T>) -> Option<u32> {
     match reach_of(&step.event.act) {
         Some(Reach { writes: false, .. }) => Some(step.row),
         _ => seen,
@@ -257,7 +257,7 @@ fn seen_after<T: Copy>(seen: Option<u32>, step: &Step<T>) -> Option<u32> {
 /// The lane of a party whose boxes are this wide, from this place on.
 fn lane_of<T: Copy>(
     alloc: Global,
-    steps: &[Step<T>],
+    steps: &[StoryStep<T>],
     party: usize,
     left: u32,
     width: u32,
@@ -275,7 +275,7 @@ fn lane_of<T: Copy>(
 fn add_lane<T: Copy>(
     alloc: Global,
     lanes: &mut Vec<Lane>,
-    steps: &[Step<T>],
+    steps: &[StoryStep<T>],
     party: usize,
     left: u32,
     width: u32,

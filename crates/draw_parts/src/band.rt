@@ -1,8 +1,8 @@
 //! Draws what the words of the object held.
+use crate::shape::{put_text, put_titled, rect};
 use draw_layout::band::{Band, Colour, Segment};
 use draw_layout::layout::{Layout, top_of};
 use draw_markup::markup::Markup;
-use draw_shapes::shape::{put_text, put_titled, rect};
 use std::alloc::{AllocError, Global};
 
 /// The class of a band's colour.

@@ -1,11 +1,11 @@
 //! Draws what stands below the steps: what the run has left, what the picture leaves out, and the legend.
 ghost use Rattle.std.specs.Prelude.{◌<◌, ◌^◌, IfOk};
 
+use crate::legend::{draw_legend, legend_height};
+use crate::shape::put_text;
 use crate::signs::signs_of;
 use draw_layout::layout::Layout;
 use draw_markup::markup::Markup;
-use draw_shapes::legend::{draw_legend, legend_height};
-use draw_shapes::shape::put_text;
 use draw_story::story::{MOST_STEPS, Story};
 use std::alloc::{AllocError, Global};
 

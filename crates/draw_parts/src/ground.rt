@@ -3,10 +3,10 @@ use crate::band::draw_bands;
 use crate::foot::height_of;
 use crate::lane::draw_lanes;
 use crate::schedule::draw_schedule;
+use crate::shape::{put, put_shape, put_text, rect, title_of};
+use crate::style::draw_style;
 use draw_layout::layout::Layout;
 use draw_markup::markup::Markup;
-use draw_shapes::shape::{put, put_shape, put_text, rect, title_of};
-use draw_shapes::style::draw_style;
 use draw_story::story::Story;
 use std::alloc::{AllocError, Global};
 

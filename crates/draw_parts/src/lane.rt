@@ -1,9 +1,9 @@
 //! Draws the lanes, and on them the parties' calls, stands and holds.
+use crate::shape::{circle, line, put_shape, put_text, put_titled, rect};
 use draw_layout::lane::{Hold, Lane, Span};
 use draw_layout::layout::{Layout, top_of};
 use draw_markup::markup::Markup;
 use draw_markup::name::Key;
-use draw_shapes::shape::{circle, line, put_shape, put_text, put_titled, rect};
 use model_events::hold::HoldKind;
 use std::alloc::{AllocError, Global};
 

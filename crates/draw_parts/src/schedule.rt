@@ -1,7 +1,7 @@
 //! Draws the lines of the text, on the left.
+use crate::shape::{line, put_shape, put_text};
 use draw_layout::layout::{Layout, SCHEDULE, top_of};
 use draw_markup::markup::Markup;
-use draw_shapes::shape::{line, put_shape, put_text};
 use draw_story::story::{Line, Story};
 use std::alloc::{AllocError, Global};
 

@@ -1,9 +1,9 @@
 //! The signs that a picture uses.
+use crate::legend::{SIGNS, Sign};
 use draw_layout::label::{Mark, mark_of, reach_of};
 use draw_layout::lane::{Hold, Lane, Span};
 use draw_layout::layout::Layout;
-use draw_shapes::legend::{SIGNS, Sign};
-use draw_story::story::{Step, Story};
+use draw_story::story::{Story, StoryStep};
 use model_events::event::Act;
 use model_events::hold::HoldKind;
 use std::alloc::{AllocError, Global};
@@ -37,7 +37,7 @@ fn writes<T: Copy>(act: &Act<T>) -> Option<bool> {
 }
 
 /// Whether a step is drawn with a sign.
-fn is_at_step<T: Copy>(step: &Step<T>, layout: &Layout, sign: Sign) -> bool {
+fn is_at_step<T: Copy>(step: &StoryStep<T>, layout: &Layout, sign: Sign) -> bool {
     let mark = mark_of(&step.event.act);
     match sign {
         Sign::Read => writes(&step.event.act) == Some(false),
@@ -93,7 +93,7 @@ fn is_on_lanes(layout: &Layout, sign: Sign) -> bool {
 }
 
 /// Whether a sign is at one of the steps.
-fn is_at_steps<T: Copy>(steps: &[Step<T>], layout: &Layout, sign: Sign) -> bool {
+fn is_at_steps<T: Copy>(steps: &[StoryStep<T>], layout: &Layout, sign: Sign) -> bool {
     for step in steps {
         if is_at_step(step, layout, sign) {
             return true;

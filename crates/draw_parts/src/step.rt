@@ -2,14 +2,14 @@
 ghost use Rattle.std.specs.Prelude.{◌<◌, ◌^◌};
 
 use crate::lane::draw_party;
+use crate::legend::cross;
+use crate::shape::{circle, line, put_shape, put_text, rect};
 use crate::signs::is_anybody_at;
 use draw_layout::label::{Mark, Reach, Tone, label_of, mark_of, outcome_of, reach_of, tone_of};
 use draw_layout::lane::Lane;
 use draw_layout::layout::{Layout, top_of};
 use draw_markup::markup::Markup;
-use draw_shapes::legend::cross;
-use draw_shapes::shape::{circle, line, put_shape, put_text, rect};
-use draw_story::story::{Step, Story};
+use draw_story::story::{Story, StoryStep};
 use std::alloc::{AllocError, Global};
 use sync_steps::steps::Act;
 use text_lines::integer::TextInteger;
@@ -80,7 +80,7 @@ fn draw_label<T: TextInteger>(
     picture: &mut Markup,
     story: &Story<T>,
     lane: &Lane,
-    step: &Step<T>,
+    step: &StoryStep<T>,
 ) -> Result<(), AllocError> {
     let baseline = top_of(step.row) + 12;
     // A wake's arrow is longer than a mark.
@@ -99,7 +99,7 @@ fn draw_outcome<T: TextInteger>(
     alloc: Global,
     picture: &mut Markup,
     lane: &Lane,
-    step: &Step<T>,
+    step: &StoryStep<T>,
 ) -> Result<(), AllocError> {
     let baseline = top_of(step.row) + 12;
     let outcome = outcome_of(alloc, &step.event.then)?;
@@ -116,7 +116,7 @@ fn draw_head<T>(
     alloc: Global,
     picture: &mut Markup,
     lane: &Lane,
-    step: &Step<T>,
+    step: &StoryStep<T>,
 ) -> Result<(), AllocError> {
     let baseline = top_of(step.row) + 13;
     if let Some(line) = &step.line
@@ -134,7 +134,7 @@ fn draw_act<T: Copy>(
     picture: &mut Markup,
     layout: &Layout,
     lane: &Lane,
-    step: &Step<T>,
+    step: &StoryStep<T>,
 ) -> Result<(), AllocError> {
     let x = lane.middle();
     let y = top_of(step.row) + 8;
@@ -152,7 +152,7 @@ fn draw_in_lane<T: TextInteger>(
     story: &Story<T>,
     layout: &Layout,
     lane: &Lane,
-    step: &Step<T>,
+    step: &StoryStep<T>,
 ) -> Result<(), AllocError> {
     if let Act::Begun(_) = step.event.act {
         return draw_head(alloc, picture, lane, step);
@@ -168,7 +168,7 @@ pub fn draw_inside<T: TextInteger>(
     inside: &mut Markup,
     story: &Story<T>,
     layout: &Layout,
-    step: &Step<T>,
+    step: &StoryStep<T>,
 ) -> Result<(), AllocError> {
     inside.say("\n")?;
     match layout.lane_of(step.event.party) {

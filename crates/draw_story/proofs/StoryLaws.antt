@@ -23,7 +23,7 @@ use Rattle.text_trace.specs.declared.rows.Row.{Row}
 use Rattle.text_trace.specs.Rows.{Entry, entry_of, entries, trimmed}
 use Rattle.text_trace.specs.Trace.{HasAdded, HasPlayed, rows_with, rows_of}
 use Rattle.text_trace.proofs.TraceLaws.{rows_opened}
-use Rattle.draw_story.specs.declared.story.Step.{Step}
+use Rattle.draw_story.specs.declared.story.StoryStep.{StoryStep}
 use Rattle.draw_story.specs.Story.{Shown, shown_of, shown_at, kept, number_at_end, left_out, HasOutput}
 use Rattle.draw_story.specs.Title.{title_words}
 
@@ -51,7 +51,7 @@ module _ {T : Type 0} where
 
   -- one more row, as a step
   pub one_more_row :
-      (made made' : List (Step T)) (rows : List (Row T)) (i : ℕ) (step : Step T) (row : Row T) → i < length rows → row ≡ get_or rows i row → (length made ≡ i) × (map shown_of made ≡ map shown_at (entries (take i rows))) → made' ≡ made ++ step ∷ [] →
+      (made made' : List (StoryStep T)) (rows : List (Row T)) (i : ℕ) (step : StoryStep T) (row : Row T) → i < length rows → row ≡ get_or rows i row → (length made ≡ i) × (map shown_of made ≡ map shown_at (entries (take i rows))) → made' ≡ made ++ step ∷ [] →
       shown_of step ≡ shown_at (entry_of row) → (length made' ≡ i + 1) × (map shown_of made' ≡ map shown_at (entries (take (i + 1) rows)))
   one_more_row made made' rows i step row below is was push same = (
     let grown : length made' ≡ length made + 1 = ap length push ∙ length-append made (step ∷ []) in omega (arith, grown, was.0),
@@ -97,7 +97,7 @@ module _ {T : Type 0} where
   left_out_trimmed rows = rw (sym (end_trimmed 2000 rows), sym (take_trimmed 2000 rows)) refl
 
   -- The titles of steps that are drawn as these rows are.
-  pub titles_told : (steps : List (Step T)) (rows : List (Entry T)) → map shown_of steps ≡ map shown_at rows → map (λ (s : Step T). string_bytes s.title) steps ≡ map title_words rows
+  pub titles_told : (steps : List (StoryStep T)) (rows : List (Entry T)) → map shown_of steps ≡ map shown_at rows → map (λ (s : StoryStep T). string_bytes s.title) steps ≡ map title_words rows
   titles_told steps rows e =
       sym (map-map (λ (s : Shown T). s.title) shown_of steps) ∙ ap (map (λ (s : Shown T). s.title)) e ∙ map-map (λ (s : Shown T). s.title) shown_at rows
 
@@ -137,7 +137,7 @@ module _ {T : Type 0} (z : Arithmetic T) (numerals : Numerals T) where
       left_out_trimmed (entries all) ∙ ap left_out (rows_are lines header rest none rows all is line left empty told added same) ∙ sym (left_out_trimmed (rows_of z numerals lines).rows)
 
   -- the steps that are drawn
-  pub tells : (lines : List (List ℕ)) (header : Header T) (rest : Rest T) (none rows all : List (Row T)) (steps : List (Step T)) → opened numerals (lines) ≡ Ok (header, lines_of rest.lines.now) → rest.line ≡ 1 → rest.left ≡ nothing → none ≡ [] →
+  pub tells : (lines : List (List ℕ)) (header : Header T) (rest : Rest T) (none rows all : List (Row T)) (steps : List (StoryStep T)) → opened numerals (lines) ≡ Ok (header, lines_of rest.lines.now) → rest.line ≡ 1 → rest.left ≡ nothing → none ≡ [] →
       (told : Option FaultyLine) → HasAdded z numerals (Some 2000) header [] (rest_walk z numerals header.object header.parties [] rest) none rows told → all ≡ rows → map shown_of steps ≡ map shown_at (kept (entries all)) →
       map shown_of steps ≡ map shown_at (kept (rows_of z numerals lines).rows)
   tells lines header rest none rows all steps is line left empty told added same shown =

@@ -9,7 +9,7 @@ use Rattle.sync_play.specs.Text.{typed_output}
 use Rattle.text_trace.specs.Rows.{Entry, number_after}
 use Rattle.text_trace.specs.Trace.{rows_of}
 use Rattle.sync_play.specs.Walk.{opened}
-use Rattle.draw_story.specs.declared.story.Step.{Step}
+use Rattle.draw_story.specs.declared.story.StoryStep.{StoryStep}
 use Rattle.draw_story.specs.declared.story.Story.{Story}
 use Rattle.draw_story.specs.Title.{title_words}
 
@@ -20,7 +20,7 @@ pub record Shown (T : Type 0) : Type 0 where
   pub count : ℕ
   pub hold : Option HoldKind
 
-abbrev pub shown_of : {T : Type 0} → Step T → Shown T
+abbrev pub shown_of : {T : Type 0} → StoryStep T → Shown T
 shown_of step = record { title = string_bytes step.title; event = step.event; count = step.count; hold = step.hold }
 
 abbrev pub shown_at : {T : Type 0} → Entry T → Shown T

@@ -7,7 +7,7 @@ use Rattle.text_lines.specs.Lexer.{lines_of}
 use Rattle.text_lines.specs.Numerals.{Numerals}
 use Rattle.text_lines.specs.ValueTypes.{values_in}
 use Rattle.text_trace.specs.Trace.{rows_of}
-use Rattle.draw_story.specs.declared.story.Step.{Step}
+use Rattle.draw_story.specs.declared.story.StoryStep.{StoryStep}
 use Rattle.draw_story.specs.Story.{kept}
 use Rattle.draw_story.specs.Title.{title_words}
 
@@ -16,7 +16,7 @@ abbrev pub IsPicture : List (List ℕ) → List ℕ → Type 0
 IsPicture titles bytes = (element : List ℕ) × (bytes ≡ element ++ codes "\n") × ∥ IsElement Tag.Svg titles element ∥₁
 
 -- the titles of a story's steps
-abbrev pub step_titles : {T : Type 0} → List (Step T) → List (List ℕ)
+abbrev pub step_titles : {T : Type 0} → List (StoryStep T) → List (List ℕ)
 step_titles steps = map (λ step. string_bytes step.title) steps
 
 -- a picture with a group for each row of the trace of these lines, in order, as far as they have room, whose title is that row in words

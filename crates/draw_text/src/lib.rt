@@ -4,7 +4,7 @@
 //! already there. The program of the crate beside this one is the first of them over standard input and output.
 //!
 //! A text is played and its steps are kept (`draw_story`); each step is put in words, and all get their places (`draw_layout`); what has
-//! a place is drawn (`draw_parts`, by the elements of `draw_shapes`); and `picture` makes one picture of it.
+//! a place is drawn (`draw_parts`); and `picture` makes one picture of it.
 #![tactic(auto)]
 
 pub mod picture;

@@ -15,7 +15,7 @@ use draw_markup::opening::Opening;
 use draw_parts::foot::{draw_foot, height_of};
 use draw_parts::ground::draw_ground;
 use draw_parts::step::draw_inside;
-use draw_story::story::{Step, Story, play};
+use draw_story::story::{Story, StoryStep, play};
 use std::alloc::{AllocError, Global};
 use text_lines::by_value_type;
 use text_lines::fault::TextFault;
@@ -26,7 +26,7 @@ fn draw_step<'s, T: TextInteger>(
     alloc: Global,
     story: &Story<T>,
     layout: &Layout,
-    step: &'s Step<T>,
+    step: &'s StoryStep<T>,
 ) -> Result<Group<'s>, AllocError>
     ensures { IfOk result (λ group. group.title.now ≡ string_bytes step.now.title) }
 {

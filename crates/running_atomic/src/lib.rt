@@ -14,6 +14,7 @@ mod history;
 mod locking;
 mod pass;
 mod script;
+mod shares;
 mod shown;
 mod steps;
 

@@ -11,6 +11,8 @@ ghost use Rattle.running_model.specs.Stages.{count_of as words_of, key_of};
 ghost use Rattle.running_barrier.specs.BarrierSteps.{ArrivalsAreOfARun, OpenRoundsAreFull};
 ghost use Rattle.model_barrier.specs.Rounds.{epoch_of, count_of};
 
+mod shares;
+
 use model_barrier::{BarrierPlace, arrived, count_of, epoch_of};
 use model_events::SPIN_REPETITIONS;
 use running_model::turn::{Called, Goes, Turn, Way, begin_new};

@@ -1,16 +1,16 @@
 -- What a closure did that acts on a value, or cannot yet.
-use Rattle.running_guarded.specs.Names.{ℕ, MutBor, Mut, CalledAtMut, Option, Some}
+use Rattle.running_guarded.specs.Names.{ℕ, MutBor, Mut, CalledAtMut, Option}
 use Rattle.running_guarded.specs.declared.when.Looked.{Looked}
 use Rattle.running_guarded.specs.declared.when.Looked.TheVariants.{Acted, Again, GaveUp}
 
--- By what the closure promises of its calls, one of them acted and gave this, in some state of the closure, and made some value of the
--- one that it was lent.
-pub record ActsOn {F T X : Type 0} (g : Mut F (MutBor T × Unit {0}) (Option X × (MutBor T × Unit {0}))) (given : X) : Type 0 where
+-- By what the closure promises of its calls, one of them gave this answer, in some state of the closure, and made some value of the one
+-- that it was lent.
+pub record HasAnswered {F T X : Type 0} (g : Mut F (MutBor T × Unit {0}) (Option X × (MutBor T × Unit {0}))) (answer : Option X) : Type 0 where
   pub before : F
   pub after : F
   pub found : T
   pub left : T
-  pub says : CalledAtMut g before found (Some given) after left
+  pub says : CalledAtMut g before found answer after left
 
 module _ {X : Type 0} where
   -- P holds of what was given

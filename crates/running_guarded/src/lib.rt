@@ -8,6 +8,7 @@ mod guard;
 mod guarded;
 mod pass;
 mod rule;
+mod shares;
 mod when;
 mod word;
 

@@ -1,5 +1,5 @@
 //! A call that waits until it can act on the value, and one that changes it for those that wait.
-ghost use Rattle.std.specs.Prelude.{◌≡◌, ℕ, suc, ◌<◌, ◌≤◌, ◌+◌, IfSome, true, false, None};
+ghost use Rattle.std.specs.Prelude.{◌≡◌, ℕ, suc, ◌<◌, ◌≤◌, ◌+◌, true, false, Some, None};
 ghost use Rattle.running_passes.specs.Answers.{IfSuccess, IfInterrupted, MayAnswerAbort, HasWoken};
 ghost use Rattle.running_semaphore.specs.SemaphoreShown.{IsEmpty};
 ghost use Rattle.running_mutex.specs.MutexParties.{HasMutex};
@@ -8,7 +8,7 @@ ghost use Rattle.running_mutex.specs.Often.{HasWaitedOften};
 ghost use Rattle.running_spin_lock.specs.ValueSteps.{Lets, has_vacant_slot};
 ghost use Rattle.running_guarded.specs.GuardedSteps.{Acts, PlaysUnlock, PlaysBoth};
 ghost use Rattle.running_guarded.specs.GuardedShown.{IsGuardedPass, HasStayed, HasLockedOnce, HasLockedOften, grants_of, object_of, number_of, view, id_of};
-ghost use Rattle.running_guarded.specs.Acting.{ActsOn, IfActed, IfGaveUp, waits_of};
+ghost use Rattle.running_guarded.specs.Acting.{HasAnswered, IfActed, IfGaveUp, waits_of};
 
 use crate::guarded::{Guarded, go_on};
 use crate::pass::GuardedPass;
@@ -59,7 +59,8 @@ impl<T: Drop, A: Allocator> Guarded<T, A> {
         requires may { K.IsAlwaysCallable wake_one × W.IsAlwaysCallable wait × F.IsAlwaysCallable act }
         ensures stayed { HasStayed pass.old pass.new }
         ensures waited { HasWaitedAtMost changed_pass.old changed_pass.new }
-        ensures acted { IfSuccess result (ActsOn F.FnMut) }
+        ensures acted { IfSuccess result (λ given. HasAnswered F.FnMut (Some given)) }
+        ensures declined { IfInterrupted result (HasAnswered F.FnMut None) }
         ensures aborted { IfInterrupted result (MayAnswerAbort W.Fn wait IsEmpty) }
         ensures looked { (waits : ℕ) × HasLockedOften (suc waits) pass.old pass.new × HasWaitedOften changed.now waits changed_pass.old changed_pass.new }
         ensures looked_again { IfInterrupted result (grants_of pass.old + 2 ≤ grants_of pass.new) }
@@ -143,7 +144,7 @@ impl<T: Drop, A: Allocator> Guarded<T, A> {
         ensures callable { F.IsAlwaysCallable act.new }
         ensures stayed { HasStayed pass.old pass.new }
         ensures waited { HasWaitedAtMost changed_pass.old changed_pass.new }
-        ensures acted { IfActed result (ActsOn F.FnMut) }
+        ensures acted { IfActed result (λ given. HasAnswered F.FnMut (Some given)) }
         ensures aborted { IfGaveUp result (MayAnswerAbort W.Fn wait.now IsEmpty) }
         ensures granted { grants_of pass.new ≡ grants_of pass.old + 1 }
         ensures played { PlaysBoth (view pass.old) (view pass.new) }
@@ -233,7 +234,7 @@ impl<T: Drop, A: Allocator> Guarded<T, A> {
         requires own { IsGuardedPass self.now pass.old }
         requires may { K.IsAlwaysCallable wake_one.now × F.IsAlwaysCallable act.old }
         ensures stayed { HasStayed pass.old pass.new }
-        ensures acted { IfSome result (ActsOn F.FnMut) }
+        ensures answered { HasAnswered F.FnMut result }
         ensures granted { grants_of pass.new ≡ grants_of pass.old + 1 }
         ensures played { PlaysBoth (view pass.old) (view pass.new) }
         ensures woke { HasWoken K.Fn wake_one.now }

@@ -8,6 +8,7 @@ mod gives;
 mod init;
 mod lazy_lock;
 mod pass;
+mod shares;
 
 pub use gives::Gives;
 pub use lazy_lock::LazyLock;

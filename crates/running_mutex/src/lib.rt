@@ -12,6 +12,7 @@ ghost use Rattle.running_mutex.specs.MutexParties.{HasMutex};
 ghost use Rattle.running_mutex.specs.MutexSteps.{GrantsAreOfARun, OneHolder};
 
 pub mod condition_variable;
+mod shares;
 mod waits;
 
 use model_events::WaitAction;

@@ -10,6 +10,8 @@ ghost use Rattle.running_model.specs.Stages.{count_of};
 ghost use Rattle.running_once.specs.OnceRule.{ClosuresAreOfARun, OneClosure, KnownHasEnded};
 ghost use Rattle.running_once.specs.OnceLaws.{DoneComesAfterTheEnd, TrueComesAfterTheEnd};
 
+mod shares;
+
 use model_once::{OncePlace, begun};
 use running_model::turn::{AfterAside, Called, Goes, Turn, Way, begin_new};
 use running_model::{Counts, CountsByActs, Played, Script, Stage};

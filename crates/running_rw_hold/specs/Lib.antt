@@ -1,1 +1,2 @@
+pub mod RwReading
 pub mod RwShown

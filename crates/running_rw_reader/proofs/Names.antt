@@ -1,7 +1,6 @@
 -- The lemmas of others that this crate cites.
-pub use Rattle.running_model.proofs.Attempts.{seen_twice, seen_none, moved_later, still_so}
+pub use Rattle.running_model.proofs.Attempts.{missed_once, refused_by, told_after, asked_after}
 pub use Rattle.running_model.proofs.Over.{is_over, either_is_over}
-pub use Rattle.running_rw_hold.proofs.RwTries.{seen_once, looked_at, last_seen, seen_instead_once, looked_again_at, found_shut, asked_on, gives_up_on, last_kept, moved_after, overtaken}
 pub use Rattle.std.proofs.Common.{◌≡◌, [], ◌∷◌, sym, subst, ap, ◌∙◌, ◌≢◌, ◌-◌, ◌^◌, ℕ, true, refl, arith, Some, None, ◌==◌, MatchBool, ◌<◌, ◌+◌, ◌%◌, Bool, false, List, Option, inl, inr, eqb, get_or, set, length-set, get_or-set_same, ◌≤◌, cond}
 pub use Rattle.std.proofs.lemmas.Bool.{MatchBool-at_true, eqb-true, eqb-false, ne_eqb}
 pub use Rattle.model_events.proofs.Holds.{eqb_same}

@@ -1,13 +1,12 @@
 -- The steps of a reader-preferring lock are those of its table.
-use Rattle.running_rw_reader.specs.Names.{nat_lt, MatchBool, Word, Call, Answer, Then, HoldKind, Patience, Intent, RwReaderPlace, rw_reader_intent, rw_reader_model, Slot, Parties, all_of, IsNamed, Coming, Going, Beginning, Continuing, ComesBy, IsAt, IsHolding, Led, Leads, HasCalled, HasEnded, MayStep, Went, spun, IsRefused, IsGranted, MayTry, IsToWake}
-use Rattle.running_rw_reader.proofs.Names.{◌≡◌, ◌≢◌, ℕ, ◌+◌, ◌-◌, ◌^◌, ◌<◌, ◌≤◌, ◌==◌, Bool, true, false, cond, refl, sym, ap, subst, ◌∙◌, List, [], ◌∷◌, Option, Some, None, arith, ne_eqb, eqb_same}
+use Rattle.running_rw_reader.specs.Names.{MatchBool, Word, Call, Answer, Then, HoldKind, Patience, Intent, RwReaderPlace, rw_reader_intent, rw_reader_model, Slot, Parties, all_of, IsNamed, Coming, Going, Beginning, Continuing, ComesBy, IsAt, IsHolding, Led, Leads, HasCalled, HasEnded, MayStep, Went, spun, IsRefused, IsGranted, MayTry, IsToWake, try_read_look, read_look}
+use Rattle.running_rw_reader.proofs.Names.{◌≡◌, ◌≢◌, ℕ, ◌+◌, ◌-◌, ◌^◌, ◌<◌, ◌≤◌, ◌==◌, Bool, true, false, refl, sym, ap, subst, ◌∙◌, List, [], ◌∷◌, Option, Some, None, arith, ne_eqb, inl, inr, eqb-true, eqb-false}
 use Rattle.std.proofs.lemmas.Bool.Decides.{nat_tests}
 use Rattle.model_events.specs.declared.event.Wake.{Wake}
-use Rattle.model_events.specs.declared.row.After.{After}
-use Rattle.model_events.specs.Rows.{within, refused}
 use Rattle.running_model.specs.Turns.{IsOverAside}
 use Rattle.running_model.proofs.Holding.{holding_told, holding_is}
-use Rattle.running_rw_reader.specs.RwReaderParties.{has_hold, HasLookedOnce, HasLooked, Unlocks}
+use Rattle.running_rw_hold.specs.RwReading.{MayLook, MayEnter}
+use Rattle.running_rw_reader.specs.RwReaderParties.{has_hold, Unlocks}
 
 abbrev Comes : Coming ℕ → Call ℕ → RwReaderPlace → List (Slot ℕ) → Parties ℕ → Type 0
 Comes way call place done p = ComesBy rw_reader_model way call place None done p
@@ -16,12 +15,6 @@ abbrev At : Call ℕ → RwReaderPlace → List (Slot ℕ) → Parties ℕ → T
 At call place done p = IsAt rw_reader_model call place Then.GoesOn None done p
 
 -- how the calls begin
-
-try_read_begins : (p : Parties ℕ) → Comes (Beginning Call.TryReadLock) Call.TryReadLock RwReaderPlace.TryReadLook (all_of p) p
-try_read_begins p = (refl, record { may = record { begins = refl; free = refl; values = tt }; new = refl; others = refl })
-
-pub read_begins : (p : Parties ℕ) → Comes (Beginning Call.ReadLock) Call.ReadLock (RwReaderPlace.ReadLook (spun 0)) (all_of p) p
-read_begins p = (refl, record { may = record { begins = refl; free = refl; values = tt }; new = refl; others = refl })
 
 try_write_begins : (p : Parties ℕ) → Comes (Beginning Call.TryWriteLock) Call.TryWriteLock RwReaderPlace.TryWrite (all_of p) p
 try_write_begins p = (refl, record { may = record { begins = refl; free = refl; values = tt }; new = refl; others = refl })
@@ -33,37 +26,15 @@ unlock_begins : (kind : HoldKind) (done : List (Slot ℕ)) (p : Parties ℕ) →
     ComesBy rw_reader_model (Continuing Call.Unlock) Call.Unlock RwReaderPlace.Release (Some kind) done p
 unlock_begins kind done p holding = (refl, record { kind = kind; may = record { begins = refl; free = refl; values = tt }; kept = refl; holding = holding })
 
--- the looks that the table has
+-- a reader's look
 
 may_load : (way : Coming ℕ) (call : Call ℕ) (place : RwReaderPlace) (done : List (Slot ℕ)) (p : Parties ℕ) → ◌≡◌ {A = Intent ℕ} (rw_reader_intent Word.State place None) (Intent.Load Word.State) →
     Comes way call place done p → MayStep rw_reader_model (Word.State ∷ []) way 0 (λ w. Intent.Load w) p
 may_load way call place done p intends comes = record { call = call; place = place; hold = None; done = done; comes = comes; name = Word.State; named = refl; intends = intends; on = refl }
 
-pub may_look_once : (p : Parties ℕ) → MayStep rw_reader_model (Word.State ∷ []) (Beginning Call.TryReadLock) 0 (λ w. Intent.Load w) p
-may_look_once p = may_load _ Call.TryReadLock RwReaderPlace.TryReadLook (all_of p) p refl (try_read_begins p)
-
-pub may_look : (way : Coming ℕ) (p : Parties ℕ) → MayTry rw_reader_model Call.ReadLock RwReaderPlace.ReadLook way p → MayStep rw_reader_model (Word.State ∷ []) way 0 (λ w. Intent.Load w) p
-may_look way p may = may_load way Call.ReadLock (RwReaderPlace.ReadLook may.patience) may.done p refl may.comes
-
-pub looked_once : (found : ℕ) (p q : Parties ℕ) → Went rw_reader_model (Beginning Call.TryReadLock) p found q → HasLookedOnce found (all_of p) q
-looked_once found p q went = went Call.TryReadLock RwReaderPlace.TryReadLook None (all_of p) (try_read_begins p)
-
-pub looked : (way : Coming ℕ) (found : ℕ) (p q : Parties ℕ) → Went rw_reader_model way p found q → (patience : Patience) (done : List (Slot ℕ)) → Comes way Call.ReadLock (RwReaderPlace.ReadLook patience) done p →
-    HasLooked patience found done q
-looked way found p q went patience done comes = went Call.ReadLock (RwReaderPlace.ReadLook patience) None done comes
-
--- where a reader may enter, the call comes to an exchange
-
-once_open : (seen : ℕ) (b : Bool) (done : List (Slot ℕ)) (p : Parties ℕ) → seen < 2 ^ 64 - 2 → nat_lt seen (2 ^ 64 - 2) ≡ b →
-    Leads rw_reader_model Call.TryReadLock (cond b (After.At (RwReaderPlace.TryRead seen (seen + 1))) (After.Ends Answer.Interrupted)) None done p → At Call.TryReadLock (RwReaderPlace.TryRead seen (seen + 1)) done p
-once_open seen true done p room test at = at
-once_open seen false done p room test at = absurd (grind (arith, nat_tests))
-
-once_shut : (seen : ℕ) (b : Bool) (done : List (Slot ℕ)) (p : Parties ℕ) → 2 ^ 64 - 2 ≤ seen → nat_lt seen (2 ^ 64 - 2) ≡ b →
-    Leads rw_reader_model Call.TryReadLock (cond b (After.At (RwReaderPlace.TryRead seen (seen + 1))) (After.Ends Answer.Interrupted)) None done p →
-    HasEnded rw_reader_model Call.TryReadLock Answer.Interrupted None done p
-once_shut seen true done p full test at = absurd (grind (arith, nat_tests))
-once_shut seen false done p full test at = at
+pub may_look : (way : Coming ℕ) (p : Parties ℕ) → MayLook rw_reader_model RwReaderPlace.TryReadLook RwReaderPlace.ReadLook way p → MayStep rw_reader_model (Word.State ∷ []) way 0 (λ w. Intent.Load w) p
+may_look way p (inl may) = may_load way Call.TryReadLock RwReaderPlace.TryReadLook may.done p refl may.comes
+may_look way p (inr may) = may_load way Call.ReadLock (RwReaderPlace.ReadLook may.patience) may.done p refl may.comes
 
 -- what a look of the model's function means, by whether it answers the next word
 
@@ -76,82 +47,51 @@ reads_some seen to answer one_more full is =
 pub reads_none : (seen : ℕ) (answer : Option ℕ) → (seen < 2 ^ 64 - 2 → answer ≡ Some (seen + 1)) → answer ≡ None → 2 ^ 64 - 2 ≤ seen
 reads_none seen answer one_more is = let no_room : seen < 2 ^ 64 - 2 → ⊥ = λ room. let more = one_more room in cc in omega (arith, no_room)
 
-pub turned_away : (seen : ℕ) (done : List (Slot ℕ)) (p : Parties ℕ) → 2 ^ 64 - 2 ≤ seen → HasLookedOnce seen done p → HasEnded rw_reader_model Call.TryReadLock Answer.Interrupted None done p
-turned_away seen done p full at = once_shut seen (nat_lt seen (2 ^ 64 - 2)) done p full refl at
+-- where no reader may enter, the call is refused, and where one may, it comes to an exchange
 
-comes_once : (seen : ℕ) (done : List (Slot ℕ)) (p : Parties ℕ) → seen < 2 ^ 64 - 2 → HasLookedOnce seen done p → At Call.TryReadLock (RwReaderPlace.TryRead seen (seen + 1)) done p
-comes_once seen done p room at = once_open seen (nat_lt seen (2 ^ 64 - 2)) done p room refl at
+abbrev LooksOnce : ℕ → List (Slot ℕ) → Parties ℕ → Type 0
+LooksOnce seen done p = Leads rw_reader_model Call.TryReadLock (try_read_look seen) None done p
 
-open_so : (patience : Patience) (seen : ℕ) (b : Bool) (done : List (Slot ℕ)) (p : Parties ℕ) → seen < 2 ^ 64 - 2 → nat_lt seen (2 ^ 64 - 2) ≡ b →
-    Leads rw_reader_model Call.ReadLock (cond b (After.At (RwReaderPlace.Read seen (seen + 1) patience)) (within RwReaderPlace.ReadLook (refused patience seen))) None done p →
-    At Call.ReadLock (RwReaderPlace.Read seen (seen + 1) patience) done p
-open_so patience seen true done p room test at = at
-open_so patience seen false done p room test at = absurd (grind (arith, nat_tests))
+pub turned_away : (seen : ℕ) (done : List (Slot ℕ)) (p : Parties ℕ) → 2 ^ 64 - 2 ≤ seen → LooksOnce seen done p → HasEnded rw_reader_model Call.TryReadLock Answer.Interrupted None done p
+turned_away seen done p h1 h2 = grind (arith, nat_tests, eqb-true, eqb-false)
 
-shut_so : (patience : Patience) (seen : ℕ) (b : Bool) (done : List (Slot ℕ)) (p : Parties ℕ) → 2 ^ 64 - 2 ≤ seen → nat_lt seen (2 ^ 64 - 2) ≡ b →
-    Leads rw_reader_model Call.ReadLock (cond b (After.At (RwReaderPlace.Read seen (seen + 1) patience)) (within RwReaderPlace.ReadLook (refused patience seen))) None done p →
-    IsRefused rw_reader_model Call.ReadLock RwReaderPlace.ReadLook patience seen done p
-shut_so patience seen true done p full test at = absurd (grind (arith, nat_tests))
-shut_so patience seen false done p full test at = at
+comes_once : (seen : ℕ) (done : List (Slot ℕ)) (p : Parties ℕ) → seen < 2 ^ 64 - 2 → LooksOnce seen done p → At Call.TryReadLock (RwReaderPlace.TryRead seen (seen + 1)) done p
+comes_once seen done p h1 h2 = grind (arith, nat_tests, eqb-true, eqb-false)
 
-pub found_shut : (patience : Patience) (seen : ℕ) (done : List (Slot ℕ)) (p : Parties ℕ) → 2 ^ 64 - 2 ≤ seen → HasLooked patience seen done p → IsRefused rw_reader_model Call.ReadLock RwReaderPlace.ReadLook patience seen done p
-found_shut patience seen done p full at = shut_so patience seen (nat_lt seen (2 ^ 64 - 2)) done p full refl at
+abbrev Looks : Patience → ℕ → List (Slot ℕ) → Parties ℕ → Type 0
+Looks patience seen done p = Leads rw_reader_model Call.ReadLock (read_look patience seen) None done p
 
-comes_to_read : (patience : Patience) (seen : ℕ) (done : List (Slot ℕ)) (p : Parties ℕ) → seen < 2 ^ 64 - 2 → HasLooked patience seen done p → At Call.ReadLock (RwReaderPlace.Read seen (seen + 1) patience) done p
-comes_to_read patience seen done p room at = open_so patience seen (nat_lt seen (2 ^ 64 - 2)) done p room refl at
+pub found_shut : (patience : Patience) (seen : ℕ) (done : List (Slot ℕ)) (p : Parties ℕ) → 2 ^ 64 - 2 ≤ seen → Looks patience seen done p → IsRefused rw_reader_model Call.ReadLock RwReaderPlace.ReadLook patience seen done p
+found_shut patience seen done p h1 h2 = grind (arith, nat_tests, eqb-true, eqb-false)
 
--- the exchanges that the table has there
+comes_to_read : (patience : Patience) (seen : ℕ) (done : List (Slot ℕ)) (p : Parties ℕ) → seen < 2 ^ 64 - 2 → Looks patience seen done p → At Call.ReadLock (RwReaderPlace.Read seen (seen + 1) patience) done p
+comes_to_read patience seen done p h1 h2 = grind (arith, nat_tests, eqb-true, eqb-false)
+
+-- its exchange
 
 may_exchange : (call : Call ℕ) (place : RwReaderPlace) (done : List (Slot ℕ)) (p : Parties ℕ) (seen more : ℕ) → more ≡ seen + 1 → ◌≡◌ {A = Intent ℕ} (rw_reader_intent Word.State place None) (Intent.Exchange Word.State seen (seen + 1)) →
     At call place done p → MayStep rw_reader_model (Word.State ∷ []) Going 0 (λ w. Intent.Exchange w seen more) p
-may_exchange call place done p seen more is intends at = record {
-  call = call;
-  place = place;
-  hold = None;
-  done = done;
-  comes = at;
-  name = Word.State;
-  named = refl;
-  intends = intends ∙ ap (λ (n : ℕ). Intent.Exchange Word.State seen n) (sym is);
-  on = refl;
-}
+may_exchange call place done p seen more h1 h2 h3 = grind (arith, nat_tests, eqb-true, eqb-false)
 
-pub may_read_once : (seen more : ℕ) (done : List (Slot ℕ)) (p : Parties ℕ) → seen < 2 ^ 64 - 2 → more ≡ seen + 1 → HasLookedOnce seen done p → MayStep rw_reader_model (Word.State ∷ []) Going 0 (λ w. Intent.Exchange w seen more) p
-may_read_once seen more done p room is at = may_exchange Call.TryReadLock (RwReaderPlace.TryRead seen (seen + 1)) done p seen more is refl (comes_once seen done p room at)
-
-pub may_read : (patience : Patience) (seen more : ℕ) (done : List (Slot ℕ)) (p : Parties ℕ) → seen < 2 ^ 64 - 2 → more ≡ seen + 1 → HasLooked patience seen done p → MayStep rw_reader_model (Word.State ∷ []) Going 0 (λ w. Intent.Exchange w seen more) p
-may_read patience seen more done p room is at = may_exchange Call.ReadLock (RwReaderPlace.Read seen (seen + 1) patience) done p seen more is refl (comes_to_read patience seen done p room at)
-
--- where they lead
+pub may_read : (seen more : ℕ) (p : Parties ℕ) → seen < 2 ^ 64 - 2 → more ≡ seen + 1 → MayEnter rw_reader_model RwReaderPlace.TryReadLook RwReaderPlace.ReadLook seen p → MayStep rw_reader_model (Word.State ∷ []) Going 0 (λ w. Intent.Exchange w seen more) p
+may_read seen more p room is (inl at) = may_exchange Call.TryReadLock (RwReaderPlace.TryRead seen (seen + 1)) at.0 p seen more is refl (comes_once seen at.0 p room at.1)
+may_read seen more p room is (inr at) = may_exchange Call.ReadLock (RwReaderPlace.Read seen (seen + 1) at.0) at.1 p seen more is refl (comes_to_read at.0 seen at.1 p room at.2)
 
 once_so : (seen found : ℕ) (b : Bool) (done : List (Slot ℕ)) (q : Parties ℕ) → (found == seen) ≡ b → Led rw_reader_model Call.TryReadLock (RwReaderPlace.TryRead seen (seen + 1)) None found done q →
     MatchBool b (HasEnded rw_reader_model Call.TryReadLock Answer.Success (Some HoldKind.Read) done q) (HasEnded rw_reader_model Call.TryReadLock Answer.Interrupted None done q)
-once_so seen found true done q test led = rw test at led
-once_so seen found false done q test led = rw test at led
+once_so seen found b done q h1 h2 = grind (arith, nat_tests, eqb-true, eqb-false)
 
-pub read_once : (seen found : ℕ) (done : List (Slot ℕ)) (p q : Parties ℕ) → seen < 2 ^ 64 - 2 → HasLookedOnce seen done p → Went rw_reader_model Going p found q →
+pub read_once : (seen found : ℕ) (done : List (Slot ℕ)) (p q : Parties ℕ) → seen < 2 ^ 64 - 2 → LooksOnce seen done p → Went rw_reader_model Going p found q →
     MatchBool (found == seen) (HasEnded rw_reader_model Call.TryReadLock Answer.Success (Some HoldKind.Read) done q) (HasEnded rw_reader_model Call.TryReadLock Answer.Interrupted None done q)
 read_once seen found done p q room at went = once_so seen found (found == seen) done q refl (went Call.TryReadLock (RwReaderPlace.TryRead seen (seen + 1)) None done (comes_once seen done p room at))
 
-read_so : (patience : Patience) (seen found : ℕ) (b : Bool) (done : List (Slot ℕ)) (q : Parties ℕ) → (found == seen) ≡ b → b ≡ true →
-    Led rw_reader_model Call.ReadLock (RwReaderPlace.Read seen (seen + 1) patience) None found done q → IsGranted rw_reader_model Call.ReadLock RwReaderPlace.ReadLook (Some HoldKind.Read) done q
-read_so patience seen found true done q test hit led = rw test at led
-read_so patience seen found false done q test hit led = absurd cc
+read_so : (patience : Patience) (seen found : ℕ) (b : Bool) (done : List (Slot ℕ)) (q : Parties ℕ) → (found == seen) ≡ b → Led rw_reader_model Call.ReadLock (RwReaderPlace.Read seen (seen + 1) patience) None found done q →
+    MatchBool b (IsGranted rw_reader_model Call.ReadLock RwReaderPlace.ReadLook (Some HoldKind.Read) done q) (Looks patience found done q)
+read_so patience seen found b done q h1 h2 = grind (arith, nat_tests, eqb-true, eqb-false)
 
-again_so : (patience : Patience) (seen found : ℕ) (b : Bool) (done : List (Slot ℕ)) (q : Parties ℕ) → (found == seen) ≡ b → b ≡ false →
-    Led rw_reader_model Call.ReadLock (RwReaderPlace.Read seen (seen + 1) patience) None found done q → HasLooked patience found done q
-again_so patience seen found true done q test miss led = absurd cc
-again_so patience seen found false done q test miss led = rw test at led
-
-pub has_read : (patience : Patience) (seen found : ℕ) (done : List (Slot ℕ)) (p q : Parties ℕ) → seen < 2 ^ 64 - 2 → found ≡ seen → HasLooked patience seen done p → Went rw_reader_model Going p found q →
-    IsGranted rw_reader_model Call.ReadLock RwReaderPlace.ReadLook (Some HoldKind.Read) done q
-has_read patience seen found done p q room hit at went =
-    read_so patience seen found (found == seen) done q refl (subst (λ m. (m == seen) ≡ true) (sym hit) (eqb_same seen)) (went Call.ReadLock (RwReaderPlace.Read seen (seen + 1) patience) None done (comes_to_read patience seen done p room at))
-
-pub looked_again : (patience : Patience) (seen found : ℕ) (done : List (Slot ℕ)) (p q : Parties ℕ) → seen < 2 ^ 64 - 2 → found ≢ seen → HasLooked patience seen done p → Went rw_reader_model Going p found q →
-    HasLooked patience found done q
-looked_again patience seen found done p q room miss at went =
-    again_so patience seen found (found == seen) done q refl (ne_eqb found seen miss) (went Call.ReadLock (RwReaderPlace.Read seen (seen + 1) patience) None done (comes_to_read patience seen done p room at))
+pub read_goes : (patience : Patience) (seen found : ℕ) (done : List (Slot ℕ)) (p q : Parties ℕ) → seen < 2 ^ 64 - 2 → Looks patience seen done p → Went rw_reader_model Going p found q →
+    MatchBool (found == seen) (IsGranted rw_reader_model Call.ReadLock RwReaderPlace.ReadLook (Some HoldKind.Read) done q) (Looks patience found done q)
+read_goes patience seen found done p q room at went = read_so patience seen found (found == seen) done q refl (went Call.ReadLock (RwReaderPlace.Read seen (seen + 1) patience) None done (comes_to_read patience seen done p room at))
 
 -- a writer's exchange
 
@@ -178,9 +118,6 @@ may_write way p may put is = may_enter way Call.WriteLock (RwReaderPlace.Write m
 
 pub first_write : (p : Parties ℕ) → MayTry rw_reader_model Call.WriteLock RwReaderPlace.Write (Beginning Call.WriteLock) p
 first_write p = record { patience = spun 0; done = all_of p; comes = write_begins p }
-
-pub first_read : (p : Parties ℕ) → MayTry rw_reader_model Call.ReadLock RwReaderPlace.ReadLook (Beginning Call.ReadLock) p
-first_read p = record { patience = spun 0; done = all_of p; comes = read_begins p }
 
 pub wrote_once : (p q : Parties ℕ) → Went rw_reader_model (Beginning Call.TryWriteLock) p 0 q → HasCalled rw_reader_model Call.TryWriteLock Answer.Success (Some HoldKind.Write) p q
 wrote_once p q went = went Call.TryWriteLock RwReaderPlace.TryWrite None (all_of p) (try_write_begins p)

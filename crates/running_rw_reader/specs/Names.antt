@@ -1,4 +1,8 @@
 -- What this crate reads of others.
+pub use Rattle.std.specs.Borrow.{Bor}
+pub use Rattle.std.specs.Fn.{Shared}
+pub use Rattle.model_events.specs.declared.WaitAction.{WaitAction}
+pub use Rattle.running_passes.specs.Answers.{HasAsked}
 pub use Rattle.running_passes.specs.Parts.{IsWhole}
 pub use Rattle.running_passes.specs.Passes.{IsSamePass, part_of, sights_of}
 pub use Rattle.running_passes.specs.Views.{looked, missed, wrote, sum_of, IsCounted, Updates}

@@ -6,7 +6,7 @@ use Rattle.running_model.specs.Stages.{IsPassOf}
 use Rattle.running_rw_reader.specs.declared.RwLockReaderPreference.{RwLockReaderPreference}
 use Rattle.running_rw_hold.specs.RwShown.{IsReadHold, IsWriteHold, kind_of, pass_of, TurnsAway}
 use Rattle.running_rw_reader.specs.RwReaderParties.{Unlocks}
-use Rattle.running_rw_reader.specs.RwReaderSteps.{PlayedRwReader, word_of}
+use Rattle.running_rw_reader.specs.RwReaderSteps.{PlayedRwReader}
 
 -- the pass of a reader-preferring lock
 abbrev pub RwReaderPass : Type 0
@@ -53,15 +53,6 @@ HasEnteredToRead = HasMoved EntersToRead
 
 abbrev pub HasEnteredToWrite : RwReaderPass → RwReaderPass → Type 0
 HasEnteredToWrite = HasMoved EntersToWrite
-
--- Within a `read_lock`: it saw the lock, this last, and counted nothing. Where no other pass is left, it looked once, and saw what its holds come
--- to.
-pub record HasSeenLast (found : ℕ) (p q : RwReaderPass) : Type 0 where
-  pub stayed : HasOnlySeen p q
-  pub more : (sights_of p).count + 1 ≤ (sights_of q).count
-  pub last : (sights_of q).last ≡ found
-  pub once : IsWhole (part_of p) → (sights_of q).count ≡ (sights_of p).count + 1
-  pub says : IsWhole (part_of p) → found ≡ word_of (tally_of p)
 
 -- one look saw the value from which the read hold was then turned on, and nothing else changed
 abbrev pub HasReadAtOnce : RwReaderPass → RwReaderPass → Type 0

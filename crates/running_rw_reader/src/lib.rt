@@ -11,6 +11,7 @@ ghost use Rattle.running_model.specs.Stages.{count_of};
 ghost use Rattle.running_rw_reader.specs.RwReaderSteps.{HoldsAreOfARun, NoHoldBesideAWriteHold};
 
 mod reading;
+mod shares;
 mod steps;
 mod writing;
 
@@ -18,7 +19,9 @@ use model_events::WaitAction;
 use model_rw_reader::RwReaderPlace;
 use running_model::Stage;
 use running_passes::{Origin, Pass, WaitResult};
-use running_rw_hold::{RwHold, end_read_hold, end_write_hold, read_hold, write_hold};
+use running_rw_hold::{
+    RwHold, end_read_hold, end_write_hold, read_hold, try_to_read, wait_to_read, write_hold,
+};
 use running_tallies::{Held, PlayedRwReader, RwReaderScript, WaitWord};
 use std::alloc::{AllocError, Allocator, Global};
 use std::ops::Deref;
@@ -96,7 +99,7 @@ impl<A: Allocator> RwLockReaderPreference<A> {
         ensures played { IfSuccess result (λ hold. HasPlayed calls.TryReadLock answers.Success (Some kinds.Read) pass.old (pass_of hold)) }
         ensures exact { IsAlone pass.old → IsSuccess result }
     {
-        if this.try_to_read(pass) {
+        if try_to_read(this, pass) {
             WaitResult::Success(RwHold::Read(read_hold(pass)))
         } else {
             WaitResult::Interrupted
@@ -123,7 +126,7 @@ impl<A: Allocator> RwLockReaderPreference<A> {
         ensures exact { IsAlone pass.old → IsSuccess result }
         ensures aborted { IfInterrupted result (MayAnswerAbort W.Fn wait IsShut) }
     {
-        if this.wait_to_read(pass, rt, &wait) {
+        if wait_to_read(this, pass, rt, &wait) {
             WaitResult::Success(RwHold::Read(read_hold(pass)))
         } else {
             WaitResult::Interrupted

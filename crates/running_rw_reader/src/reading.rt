@@ -1,221 +1,124 @@
 //! What calls of a reader-preferring lock do for a reader.
-ghost use Rattle.std.specs.Prelude.{◌≡◌, IfOk};
-ghost use Rattle.running_model.specs.Passes.{parties_of};
+ghost use Rattle.std.specs.Prelude.{◌≡◌, ◌+◌, ◌-◌, ◌^◌, ◌<◌};
 
 use crate::{RwLockReaderPreference, RwReaderPass};
-use model_events::WaitAction;
 use model_rw_reader::{RwReaderPlace, reader_enters};
-use running_model::turn::{Attempt, Called, Goes, Turn, Way, begin_held, begin_new, try_again};
-use running_rw_hold::{ReadCall, TryReadCall, UnlockCall};
+use running_model::Sealed;
+use running_model::turn::{Goes, Turn, Way, begin_held};
+use running_rw_hold::{ReadSteps, UnlockCall};
 use running_tallies::{Held, RwReaderScript, WaitWord};
 use std::alloc::Allocator;
-use std::sync::Wait;
 
-impl<A: Allocator> RwLockReaderPreference<A> {
-    ghost use Rattle.std.specs.Prelude.{ℕ, true, false, ◌+◌, ◌<◌, List, [], ◌∷◌, Some, None, MatchBool, IfErr, is_ok};
-    ghost use Rattle.running_model.specs.Passes.{counts_of as tally_of};
+/// A load, and an exchange of the value seen for one more.
+impl<A: Allocator> ReadSteps<RwReaderScript, RwReaderPlace, Held<()>>
+    for RwLockReaderPreference<A> {
+    ghost use Rattle.std.specs.Prelude.{[], ◌∷◌};
+    ghost use Rattle.std.proofs.Common.{refl};
     ghost use Rattle.model_events.specs.declared.event.Word.TheVariants as words;
-    ghost use Rattle.model_events.specs.declared.event.Call.TheVariants as calls;
-    ghost use Rattle.model_events.specs.declared.event.Answer.TheVariants as answers;
-    ghost use Rattle.model_events.specs.declared.hold.HoldKind.TheVariants as kinds;
     ghost use Rattle.model_events.specs.declared.patience.Patience.{Patience};
-    ghost use Rattle.model_events.specs.declared.row.Intent.TheVariants as intents;
-    ghost use Rattle.model_rw_reader.specs.declared.RwReaderPlace.TheVariants as places;
+    ghost use Rattle.running_passes.specs.Passes.{object_of};
+    ghost use Rattle.running_model.specs.Passes.{parties_of};
+    ghost use Rattle.running_model.specs.Turns.{IsOver};
+    ghost use Rattle.running_model.specs.Words.{IsNamed};
+    ghost use Rattle.running_tallies.specs.Shown.{object_shown, index_shown};
     ghost use Rattle.running_tallies.specs.RwReaderScript.{rw_reader_model};
-    ghost use Rattle.running_passes.specs.Answers.{MayAnswerAbort, HasAsked, HasWoken};
+    ghost use Rattle.running_rw_hold.specs.RwReading.{MayLook, MayEnter, HasLookedAt, HasTriedToEnter};
+    ghost use Rattle.model_rw_reader.specs.declared.RwReaderPlace.TheVariants as places;
     ghost use Rattle.running_passes.specs.Parts.{IsWhole};
-    ghost use Rattle.running_passes.specs.Passes.{part_of, sights_of};
-    ghost use Rattle.running_model.specs.Slots.{Slot, all_of};
-    ghost use Rattle.running_model.specs.Plays.{Beginning, MayStep, Went};
-    ghost use Rattle.running_model.specs.Counts.{HasSeen, HasOnlySeen, WasRefused, WasRefusedAt};
-    ghost use Rattle.running_model.specs.Tries.{spun, MayTry, Tried, IsGranted, IsRefused, HasGivenUp as HasEndedRefused};
-    ghost use Rattle.running_rw_reader.specs.RwReaderParties.{has_hold, HasLooked, Unlocks};
-    ghost use Rattle.running_rw_reader.specs.RwReaderSteps.{word_of};
-    ghost use Rattle.running_rw_reader.specs.RwReaderShown.{IsRwReaderPass, IsAlone, IsShut, reads_of, WasTurnedAway, HasEnteredToRead, HasReadAtOnce, HasSeenLast, HasLeftReading, HasPlayed};
+    ghost use Rattle.running_model.specs.Stages.{id_of};
+    ghost use Rattle.running_tallies.specs.Held.{read_holds, write_holds};
+    ghost use Rattle.running_tallies.specs.RwReaderRule.{read};
+    ghost use Rattle.running_rw_reader.specs.RwReaderSteps.{word_of as held_word};
+    ghost use Rattle.running_rw_reader.specs.RwReaderShown.{IsShut, EntersToRead};
 
-    /// What `try_read_lock` does, and whether the hold is on.
+    ghost object = { λ l. id_of l.stage };
+
+    ghost once = { places.TryReadLook };
+
+    ghost place = { places.ReadLook };
+
+    ghost opens = { λ seen more. (seen < 2 ^ 64 - 2) × (more ≡ seen + 1) };
+
+    ghost refuses = { IsShut };
+
+    ghost reads = { read };
+
+    ghost moves = { EntersToRead };
+
+    ghost only = { λ part _. IsWhole part };
+
+    ghost word_of = { held_word };
+
+    ghost free = { λ part t. IsWhole part × (read_holds t ≡ 0) × (write_holds t ≡ 0) };
+
+    ghost begins_once = { record { begins = refl; free = refl; values = tt } };
+
+    ghost begins = { record { begins = refl; free = refl; values = tt } };
+
+    ghost patient = { λ _ _. refl };
+
+    ghost has_none = { λ _ _ free. free.0 };
+
     #[inline(always)]
-    pub(crate) fn try_to_read(&self, pass: &mut RwReaderPass) -> bool
-        requires own { IsRwReaderPass self.now pass.old }
-        ensures entered { MatchBool result (HasEnteredToRead pass.old pass.new) (WasTurnedAway pass.old pass.new) }
-        ensures played { MatchBool result (HasPlayed calls.TryReadLock answers.Success (Some kinds.Read) pass.old pass.new) (HasPlayed calls.TryReadLock answers.Interrupted None pass.old pass.new) }
-        ensures has { result ≡ true → has_hold kinds.Read (parties_of pass.new) ≡ true }
-        ensures at_once { result ≡ true → HasReadAtOnce pass.old pass.new }
-        ensures exact { IsAlone pass.old → result ≡ true }
-    {
-        let (seen, turn) = self.first_look::<TryReadCall>(pass);
-        match reader_enters(seen) {
-            Some(more) => {
-                let (found, last) = self.come_to_read(turn, seen, more);
-                let _pass = last.end(&self.stage);
-                found == seen
-            }
-            None => {
-                let _pass = turn.end(&self.stage);
-                false
-            }
-        }
+    fn room(&self, seen: u64) -> Option<u64> {
+        reader_enters(seen)
     }
 
-    /// The load with which a call begins.
     #[inline(always)]
-    fn first_look<'p, L: Called<u64>>(
-        &self,
-        pass: &'p mut RwReaderPass,
-    ) -> (u64, Turn<'p, RwReaderPass, Goes>)
-        requires own { IsRwReaderPass self.now pass.old }
-        requires may { MayStep rw_reader_model (words.State ∷ []) (Beginning L.call) 0 (λ w. intents.Load w) (parties_of pass.old) }
-        ensures same_borrow { result.1.pass.ghost_name ≡ pass.entry.ghost_name }
-        ensures saw { HasSeen result.0 pass.old result.1.pass.now }
-        ensures went { Went rw_reader_model (Beginning L.call) (parties_of pass.old) result.0 (parties_of result.1.pass.now) }
-        ensures exact { IsWhole (part_of pass.old) → result.0 ≡ word_of (tally_of pass.old) }
-    {
-        let begun = begin_new::<L, RwReaderPass>(pass);
-        self.look(begun)
-    }
-
-    /// Looks, and turns a read hold on while there is room. `Err` with a value at which there was none.
-    fn read_unless_shut<'p, W: Way<u64>, R: Wait>(
+    fn look<'p, W: Way<u64>>(
         &self,
         turn: Turn<'p, RwReaderPass, W>,
-        rt: &R,
-    ) -> Result<Turn<'p, RwReaderPass, Goes>, (u64, Turn<'p, RwReaderPass, Goes>)>
-        requires own { IsRwReaderPass self.now turn.pass.now }
-        requires comes { MayTry rw_reader_model calls.ReadLock places.ReadLook W.coming (parties_of turn.pass.now) }
-        ensures same_borrow { IfOk result (λ next. next.pass.ghost_name ≡ turn.entry.pass.ghost_name) }
-        ensures same_borrow_too { IfErr result (λ missed. missed.1.pass.ghost_name ≡ turn.entry.pass.ghost_name) }
-        ensures entered { IfOk result (λ next. HasEnteredToRead turn.entry.pass.now next.pass.now) }
-        ensures refused { IfErr result (λ missed. WasRefusedAt IsShut missed.0 1 turn.entry.pass.now missed.1.pass.now) }
-        ensures once { IfErr result (λ missed. IsWhole (part_of turn.entry.pass.now) → (sights_of missed.1.pass.now).count ≡ (sights_of turn.entry.pass.now).count + 1) }
-        ensures granted { IfOk result (λ next. Tried rw_reader_model calls.ReadLock places.ReadLook W.coming (parties_of turn.entry.pass.now) (λ _ done. IsGranted rw_reader_model calls.ReadLock places.ReadLook (Some kinds.Read) done (parties_of next.pass.now))) }
-        ensures failed { IfErr result (λ missed. Tried rw_reader_model calls.ReadLock places.ReadLook W.coming (parties_of turn.entry.pass.now) (λ patience done. IsRefused rw_reader_model calls.ReadLock places.ReadLook patience missed.0 done (parties_of missed.1.pass.now))) }
-    {
-        let (seen, looked) = self.look(turn);
-        match self.read_from(looked, rt, seen) {
-            Ok(entered) => Ok(entered),
-            Err(shut) => Err(shut),
-        }
-    }
-
-    /// The same from a value that it has just seen.
-    #[inline(always)]
-    fn read_from<'p, R: Wait>(
-        &self,
-        turn: Turn<'p, RwReaderPass, Goes>,
-        rt: &R,
-        seen: u64,
-    ) -> Result<Turn<'p, RwReaderPass, Goes>, (u64, Turn<'p, RwReaderPass, Goes>)>
-        requires own { IsRwReaderPass self.now turn.pass.now }
-        requires last { (sights_of turn.pass.now).last ≡ seen }
-        requires at { (patience : Patience) × (done : List (Slot ℕ)) × HasLooked patience seen done (parties_of turn.pass.now) }
-        ensures same_borrow { IfOk result (λ next. next.pass.ghost_name ≡ turn.entry.pass.ghost_name) }
-        ensures same_borrow_too { IfErr result (λ missed. missed.1.pass.ghost_name ≡ turn.entry.pass.ghost_name) }
-        ensures entered { IfOk result (λ next. HasEnteredToRead turn.entry.pass.now next.pass.now) }
-        ensures refused { IfErr result (λ missed. HasOnlySeen turn.entry.pass.now missed.1.pass.now × ((sights_of missed.1.pass.now).last ≡ missed.0) × IsShut missed.0) }
-        ensures once { IfErr result (λ missed. (IsWhole (part_of turn.entry.pass.now) → seen ≡ word_of (tally_of turn.entry.pass.now)) → IsWhole (part_of turn.entry.pass.now) → (sights_of missed.1.pass.now).count ≡ (sights_of turn.entry.pass.now).count) }
-        ensures granted { IfOk result (λ next. (patience : Patience) (done : List (Slot ℕ)) → HasLooked patience seen done (parties_of turn.entry.pass.now) → IsGranted rw_reader_model calls.ReadLock places.ReadLook (Some kinds.Read) done (parties_of next.pass.now)) }
-        ensures failed { IfErr result (λ missed. (patience : Patience) (done : List (Slot ℕ)) → HasLooked patience seen done (parties_of turn.entry.pass.now) → IsRefused rw_reader_model calls.ReadLock places.ReadLook patience missed.0 done (parties_of missed.1.pass.now)) }
-    {
-        let mut last = seen;
-        let mut next = turn;
-        for _ in rt.forever() {
-            let Some(more) = reader_enters(last) else {
-                return Err((last, next));
-            };
-            let (found, again) = self.come_to_read(next, last, more);
-            if found == last {
-                return Ok(again);
-            }
-            last = found;
-            next = again;
-        }
-        unreachable!()
-    }
-
-    /// The look with which a `ReadLock` begins, and one exchange where there is room: no loop, so that these are inlined. `Err` with the
-    /// value seen last, at which it has not entered.
-    #[inline(always)]
-    fn first_read<'p>(
-        &self,
-        pass: &'p mut RwReaderPass,
-    ) -> Result<Turn<'p, RwReaderPass, Goes>, (u64, Turn<'p, RwReaderPass, Goes>)>
-        requires own { IsRwReaderPass self.now pass.old }
-        ensures same_borrow { IfOk result (λ next. next.pass.ghost_name ≡ pass.entry.ghost_name) }
-        ensures same_borrow_too { IfErr result (λ missed. missed.1.pass.ghost_name ≡ pass.entry.ghost_name) }
-        ensures entered { IfOk result (λ next. HasEnteredToRead pass.old next.pass.now) }
-        ensures looked { IfErr result (λ missed. HasSeenLast missed.0 pass.old missed.1.pass.now) }
-        ensures granted { IfOk result (λ next. IsGranted rw_reader_model calls.ReadLock places.ReadLook (Some kinds.Read) (all_of (parties_of pass.old)) (parties_of next.pass.now)) }
-        ensures goes_on { IfErr result (λ missed. HasLooked (spun 0) missed.0 (all_of (parties_of pass.old)) (parties_of missed.1.pass.now)) }
-        ensures exact { IsAlone pass.old → is_ok result ≡ true }
-    {
-        let (seen, turn) = self.first_look::<ReadCall>(pass);
-        let Some(more) = reader_enters(seen) else {
-            return Err((seen, turn));
-        };
-        let (found, next) = self.come_to_read(turn, seen, more);
-        if found == seen {
-            Ok(next)
-        } else {
-            Err((found, next))
-        }
-    }
-
-    /// What `read_lock` does, and whether the hold is on.
-    #[inline(always)]
-    pub(crate) fn wait_to_read<R: Wait, W: Fn(&WaitWord, &u64) -> WaitAction>(
-        &self,
-        pass: &mut RwReaderPass,
-        rt: &R,
-        wait: &W,
-    ) -> bool
-        requires own { IsRwReaderPass self.now pass.old }
-        requires may { W.IsAlwaysCallable wait.now }
-        ensures entered { MatchBool result (HasEnteredToRead pass.old pass.new) (WasRefused IsShut 10002 pass.old pass.new) }
-        ensures played { MatchBool result (HasPlayed calls.ReadLock answers.Success (Some kinds.Read) pass.old pass.new) (HasPlayed calls.ReadLock answers.Interrupted None pass.old pass.new) }
-        ensures has { result ≡ true → has_hold kinds.Read (parties_of pass.new) ≡ true }
-        ensures exact { IsAlone pass.old → result ≡ true }
-        ensures aborted { result ≡ false → MayAnswerAbort W.Fn wait.now IsShut }
-        ensures asked { IsWhole (part_of pass.old) → result ≡ false → HasAsked W.Fn wait.now IsShut 10001 pass.old pass.new }
-    {
-        match self.first_read(pass) {
-            Ok(granted) => {
-                let _pass = granted.end(&self.stage);
-                true
-            }
-            Err((seen, next)) => {
-                let (entered, last) = self.read_later(next, rt, seen, wait);
-                let _pass = last.end(&self.stage);
-                entered
-            }
-        }
-    }
-
-    /// What it does from a value that it has just seen, once its first look, or its first exchange, did not let it in.
-    fn read_later<'p, R: Wait, W: Fn(&WaitWord, &u64) -> WaitAction>(
-        &self,
-        turn: Turn<'p, RwReaderPass, Goes>,
-        rt: &R,
-        seen: u64,
-        wait: &W,
-    ) -> (bool, Turn<'p, RwReaderPass, Goes>)
-        requires own { IsRwReaderPass self.now turn.pass.now }
-        requires may { W.IsAlwaysCallable wait.now }
-        requires last { (sights_of turn.pass.now).last ≡ seen }
-        requires at { (done : List (Slot ℕ)) × HasLooked (spun 0) seen done (parties_of turn.pass.now) }
+    ) -> (u64, Turn<'p, RwReaderPass, Goes>)
+        requires own { object_of turn.pass.now ≡ id_of self.now.stage }
+        requires may { MayLook rw_reader_model places.TryReadLook places.ReadLook W.coming (parties_of turn.pass.now) }
         ensures same_borrow { result.1.pass.ghost_name ≡ turn.entry.pass.ghost_name }
-        ensures told { MatchBool result.0 (HasEnteredToRead turn.entry.pass.now result.1.pass.now) (WasRefused IsShut 10001 turn.entry.pass.now result.1.pass.now) }
-        ensures aborted { result.0 ≡ false → MayAnswerAbort W.Fn wait.now IsShut }
-        ensures asked { (IsWhole (part_of turn.entry.pass.now) → seen ≡ word_of (tally_of turn.entry.pass.now)) → IsWhole (part_of turn.entry.pass.now) → result.0 ≡ false → HasAsked W.Fn wait.now IsShut 10000 turn.entry.pass.now result.1.pass.now }
-        ensures over { (done : List (Slot ℕ)) → HasLooked (spun 0) seen done (parties_of turn.entry.pass.now) → MatchBool result.0 (IsGranted rw_reader_model calls.ReadLock places.ReadLook (Some kinds.Read) done (parties_of result.1.pass.now)) (HasEndedRefused rw_reader_model calls.ReadLock places.ReadLook done (parties_of result.1.pass.now)) }
+        ensures looked { HasLookedAt rw_reader_model places.TryReadLook places.ReadLook (λ part _. IsWhole part) held_word W.coming result.0 turn.entry.pass.now result.1.pass.now }
     {
-        match self.read_from(turn, rt, seen) {
-            Ok(granted) => (true, granted),
-            Err((shut, next)) => {
-                let reader = Reader { lock: self };
-                try_again(rt, next, &reader, &self.word(), shut, wait)
-            }
-        }
+        self.load(turn)
     }
+
+    #[inline(always)]
+    fn enter<'p>(
+        &self,
+        turn: Turn<'p, RwReaderPass, Goes>,
+        seen: u64,
+        more: u64,
+    ) -> (u64, Turn<'p, RwReaderPass, Goes>)
+        requires own { object_of turn.pass.now ≡ id_of self.now.stage }
+        requires room { (seen < 2 ^ 64 - 2) × (more ≡ seen + 1) }
+        requires may { MayEnter rw_reader_model places.TryReadLook places.ReadLook seen (parties_of turn.pass.now) }
+        ensures same_borrow { result.1.pass.ghost_name ≡ turn.entry.pass.ghost_name }
+        ensures tried { HasTriedToEnter rw_reader_model places.TryReadLook places.ReadLook (λ part _. IsWhole part) held_word read EntersToRead seen result.0 turn.entry.pass.now result.1.pass.now }
+    {
+        self.come_to_read(turn, seen, more)
+    }
+
+    #[inline(always)]
+    fn end<'p>(&self, turn: Turn<'p, RwReaderPass, Goes>) -> &'p mut RwReaderPass
+        requires own { object_of turn.pass.now ≡ id_of self.now.stage }
+        requires over { IsOver rw_reader_model (parties_of turn.pass.now) }
+        ensures same_borrow { result.ghost_name ≡ turn.entry.pass.ghost_name }
+        ensures still { result.now ≡ turn.entry.pass.now }
+    {
+        turn.end(&self.stage)
+    }
+
+    #[inline(always)]
+    fn word(&self) -> Sealed<WaitWord<'_>>
+        ensures object { object_shown result.shown ≡ id_of self.now.stage }
+        ensures index { Patience → IsNamed (words.State ∷ []) (index_shown result.shown) words.State }
+    {
+        self.stage.shown(0)
+    }
+}
+
+impl<A: Allocator> RwLockReaderPreference<A> {
+    ghost use Rattle.std.specs.Prelude.{true};
+    ghost use Rattle.model_events.specs.declared.hold.HoldKind.TheVariants as kinds;
+    ghost use Rattle.running_passes.specs.Answers.{HasWoken};
+    ghost use Rattle.running_model.specs.Passes.{parties_of};
+    ghost use Rattle.running_rw_reader.specs.RwReaderParties.{has_hold, Unlocks};
+    ghost use Rattle.running_rw_reader.specs.RwReaderShown.{IsRwReaderPass, reads_of, HasLeftReading};
 
     /// What `unlock` does with a read hold.
     #[inline(always)]
@@ -237,64 +140,5 @@ impl<A: Allocator> RwLockReaderPreference<A> {
         let turn = self.leave_reading(begun);
         let woken = turn.wake(&self.stage, &self.word(), &wake_one);
         woken.end_aside(&self.stage)
-    }
-}
-
-/// A lock, as `read_lock` tries it.
-#[derive(Drop)]
-struct Reader<'l, A: Allocator> {
-    lock: &'l RwLockReaderPreference<A>,
-}
-
-/// A look of `read_lock`, and its exchanges.
-impl<A: Allocator> Attempt<(), RwReaderScript, RwReaderPlace, u64, Held<()>> for Reader<'_, A> {
-    ghost use Rattle.std.specs.Prelude.{◌+◌, Some, IfErr};
-    ghost use Rattle.std.proofs.Common.{refl};
-    ghost use Rattle.model_events.specs.declared.event.Call.TheVariants as calls;
-    ghost use Rattle.model_events.specs.declared.hold.HoldKind.TheVariants as kinds;
-    ghost use Rattle.model_rw_reader.specs.declared.RwReaderPlace.TheVariants as places;
-    ghost use Rattle.running_passes.specs.Parts.{IsWhole};
-    ghost use Rattle.running_passes.specs.Passes.{object_of, part_of, sights_of};
-    ghost use Rattle.running_model.specs.Counts.{HasMoved, WasRefusedAt};
-    ghost use Rattle.running_model.specs.Tries.{MayTry, Tried, IsGranted, IsRefused};
-    ghost use Rattle.running_tallies.specs.RwReaderScript.{rw_reader_model};
-    ghost use Rattle.running_model.specs.Stages.{id_of};
-    ghost use Rattle.running_rw_reader.specs.RwReaderShown.{IsShut, EntersToRead};
-
-    ghost object = { λ r. id_of r.lock.now.stage };
-
-    ghost key = { λ _. tt };
-
-    ghost call = { calls.ReadLock };
-
-    ghost place = { places.ReadLook };
-
-    ghost takes = { Some kinds.Read };
-
-    ghost moves = { EntersToRead };
-
-    ghost refuses = { IsShut };
-
-    ghost looks_once = { λ part _. IsWhole part };
-
-    ghost answers = { λ _ _ _. refl };
-
-    #[inline(always)]
-    fn attempt<'p, W: Way<u64>, R: Wait>(
-        &self,
-        turn: Turn<'p, RwReaderPass, W>,
-        rt: &R,
-    ) -> Result<Turn<'p, RwReaderPass, Goes>, (u64, Turn<'p, RwReaderPass, Goes>)>
-        requires own { object_of turn.pass.now ≡ id_of self.now.lock.now.stage }
-        requires comes { MayTry rw_reader_model calls.ReadLock places.ReadLook W.coming (parties_of turn.pass.now) }
-        ensures same_borrow { IfOk result (λ next. next.pass.ghost_name ≡ turn.entry.pass.ghost_name) }
-        ensures same_borrow_too { IfErr result (λ missed. missed.1.pass.ghost_name ≡ turn.entry.pass.ghost_name) }
-        ensures moved { IfOk result (λ next. HasMoved EntersToRead turn.entry.pass.now next.pass.now) }
-        ensures refused { IfErr result (λ missed. WasRefusedAt IsShut missed.0 1 turn.entry.pass.now missed.1.pass.now) }
-        ensures once { IfErr result (λ missed. IsWhole (part_of turn.entry.pass.now) → (sights_of missed.1.pass.now).count ≡ (sights_of turn.entry.pass.now).count + 1) }
-        ensures granted { IfOk result (λ next. Tried rw_reader_model calls.ReadLock places.ReadLook W.coming (parties_of turn.entry.pass.now) (λ _ done. IsGranted rw_reader_model calls.ReadLock places.ReadLook (Some kinds.Read) done (parties_of next.pass.now))) }
-        ensures failed { IfErr result (λ missed. Tried rw_reader_model calls.ReadLock places.ReadLook W.coming (parties_of turn.entry.pass.now) (λ patience done. IsRefused rw_reader_model calls.ReadLock places.ReadLook patience missed.0 done (parties_of missed.1.pass.now))) }
-    {
-        self.lock.read_unless_shut(turn, rt)
     }
 }

@@ -29,7 +29,7 @@ impl<A: Allocator> RwLockReaderPreference<A> {
 
     /// A load.
     #[inline(always)]
-    pub(crate) fn look<'p, W: Way<u64>>(
+    pub(crate) fn load<'p, W: Way<u64>>(
         &self,
         turn: Turn<'p, RwReaderPass, W>,
     ) -> (u64, Turn<'p, RwReaderPass, Goes>)

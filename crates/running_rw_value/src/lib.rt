@@ -7,6 +7,7 @@
 
 mod guard;
 mod lock;
+mod shares;
 
 pub use guard::{ReadGuard, WriteGuard};
 pub use lock::RwLock;

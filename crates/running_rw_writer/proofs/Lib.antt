@@ -1,7 +1,6 @@
 pub mod Names
 pub mod RwWriterKeeps
 pub mod RwWriterCounts
-pub mod RwWriterReads
 pub mod RwWriterTries
 pub mod RwWriterPlays
 pub mod RwWriterUnlocks

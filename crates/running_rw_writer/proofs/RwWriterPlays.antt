@@ -1,12 +1,13 @@
 -- The steps of a writer-preferring lock are those of its table.
-use Rattle.running_rw_writer.specs.Names.{nat_lt, MatchBool, WaitAction, Word, Call, Answer, HoldKind, Patience, Intent, After, Leaver, RwWriterPlace, rw_writer_intent, rw_writer_grant, lets_readers_in, lets_writer_in, lets_mark, is_marked, is_blocked, try_read_look, read_look, spins, marks_or_spins, unmarks_or_leaves, write_refused, write_look, last_look, released, woken_all, rw_writer_model, Slot, Parties, all_of, IsNamed, IsStepOn, Coming, Going, Beginning, Continuing, Answered, ComesBy, IsHolding, Led, HasCalled, HasEnded, spun, IsRefused, IsGranted, MayTry, StandsToWait, IsToWake, rw_writer_handed}
-use Rattle.running_rw_writer.proofs.Names.{eqb-false, eqb-true, ◌≡◌, ◌≢◌, ℕ, ◌+◌, ◌-◌, ◌%◌, ◌^◌, ◌<◌, ◌≤◌, ◌==◌, Bool, true, false, cond, refl, sym, subst, ◌∙◌, List, [], ◌∷◌, Option, Some, None, arith, ne_eqb, eqb_same, is_marking, is_over}
+use Rattle.running_rw_writer.specs.Names.{nat_lt, MatchBool, WaitAction, Word, Call, Answer, HoldKind, Patience, Intent, After, Leaver, RwWriterPlace, rw_writer_intent, rw_writer_grant, lets_writer_in, lets_mark, is_marked, is_blocked, try_read_look, read_look, spins, marks_or_spins, unmarks_or_leaves, write_refused, write_look, last_look, released, woken_all, rw_writer_model, Slot, Parties, all_of, IsNamed, IsStepOn, Coming, Going, Beginning, Continuing, Answered, ComesBy, IsHolding, Led, HasCalled, HasEnded, spun, IsRefused, IsGranted, StandsToWait, IsToWake, rw_writer_handed}
+use Rattle.running_rw_writer.proofs.Names.{eqb-false, eqb-true, ◌≡◌, ◌≢◌, ℕ, ◌+◌, ◌-◌, ◌%◌, ◌^◌, ◌<◌, ◌≤◌, ◌==◌, Bool, true, false, cond, refl, sym, subst, ◌∙◌, List, [], ◌∷◌, Option, Some, None, arith, ne_eqb, eqb_same, is_marking, is_over, inl, inr}
 use Rattle.std.proofs.lemmas.Bool.Decides.{nat_tests}
 use Rattle.model_events.specs.declared.event.Wake.{Wake}
 use Rattle.running_model.specs.Turns.{IsToWakeAgain, IsOver, IsOverAside, IsOverAfterTwo}
 use Rattle.running_model.proofs.Holding.{holding_told, holding_is}
+use Rattle.running_rw_hold.specs.RwReading.{MayLook, MayEnter}
 use Rattle.running_rw_writer.specs.RwWriterSteps.{IsMarked}
-use Rattle.running_rw_writer.specs.RwWriterShown.{IsShut}
+use Rattle.running_rw_writer.specs.RwWriterShown.{IsOpen, IsShut}
 use Rattle.running_rw_writer.specs.RwWriterParties.{has_hold, TableHas, TableLed, CallGoes, WriteGoes, GoesFromTo, SomeCallGoes, ComesToWrite, ComesToGiveUp, WriteIsGranted, IsToWakeBoth, Unlocks, unlocked}
 
 abbrev Comes : Coming ℕ → Call ℕ → RwWriterPlace → List (Slot ℕ) → Parties ℕ → Type 0
@@ -25,12 +26,6 @@ lt_false m n above = grind (arith, nat_tests)
 
 hit : (m n : ℕ) → m ≡ n → (m == n) ≡ true
 hit m n is = subst (λ k. (k == n) ≡ true) (sym is) (eqb_same n)
-
-open_word : (w : ℕ) → w % 2 ≡ 0 → w < 2 ^ 64 - 4 → lets_readers_in w ≡ true
-open_word w even room = rw (even, lt_true w (2 ^ 64 - 4) room) refl
-
-shut_word : (w : ℕ) → IsShut w → lets_readers_in w ≡ false
-shut_word w h1 = grind (arith, nat_tests, eqb-true, eqb-false)
 
 markable : (w : ℕ) → w % 2 ≡ 0 → w ≢ 2 ^ 64 - 2 → lets_mark w ≡ true
 markable w even other = rw (even, ne_eqb w (2 ^ 64 - 2) other) refl
@@ -77,12 +72,6 @@ may_exchange way call place done p from to put h1 h2 h3 = grind (arith, nat_test
 
 -- how the calls begin
 
-try_read_begins : (p : Parties ℕ) → Comes (Beginning Call.TryReadLock) Call.TryReadLock RwWriterPlace.TryReadLook (all_of p) p
-try_read_begins p = (refl, record { may = record { begins = refl; free = refl; values = tt }; new = refl; others = refl })
-
-pub read_begins : (p : Parties ℕ) → Comes (Beginning Call.ReadLock) Call.ReadLock (RwWriterPlace.ReadLook (spun 0)) (all_of p) p
-read_begins p = (refl, record { may = record { begins = refl; free = refl; values = tt }; new = refl; others = refl })
-
 try_write_begins : (p : Parties ℕ) → Comes (Beginning Call.TryWriteLock) Call.TryWriteLock RwWriterPlace.TryWrite (all_of p) p
 try_write_begins p = (refl, record { may = record { begins = refl; free = refl; values = tt }; new = refl; others = refl })
 
@@ -93,58 +82,47 @@ unlock_begins : (kind : HoldKind) (done : List (Slot ℕ)) (p : Parties ℕ) →
     ComesBy rw_writer_model (Continuing Call.Unlock) Call.Unlock RwWriterPlace.Release (Some kind) done p
 unlock_begins kind done p holding = (refl, record { kind = kind; may = record { begins = refl; free = refl; values = tt }; kept = refl; holding = holding })
 
--- a reader that tries once
+-- a reader's look
 
-pub may_look_once : (p : Parties ℕ) → TableHas (Beginning Call.TryReadLock) 0 (λ w. Intent.Load w) p
-may_look_once p = may_look _ Call.TryReadLock RwWriterPlace.TryReadLook (all_of p) p refl (try_read_begins p)
+pub may_look_to_read : (way : Coming ℕ) (p : Parties ℕ) → MayLook rw_writer_model RwWriterPlace.TryReadLook RwWriterPlace.ReadLook way p → TableHas way 0 (λ w. Intent.Load w) p
+may_look_to_read way p (inl may) = may_look way Call.TryReadLock RwWriterPlace.TryReadLook may.done p refl may.comes
+may_look_to_read way p (inr may) = may_look way Call.ReadLock (RwWriterPlace.ReadLook may.patience) may.done p refl may.comes
 
-pub looked_once : (found : ℕ) (p q : Parties ℕ) → TableLed (Beginning Call.TryReadLock) p found q → CallGoes Call.TryReadLock (try_read_look found) (all_of p) q
-looked_once found p q went = went Call.TryReadLock RwWriterPlace.TryReadLook None (all_of p) (try_read_begins p)
+-- where no reader may enter, the call is refused, and where one may, it comes to an exchange
 
 pub turned_away : (seen : ℕ) (done : List (Slot ℕ)) (p : Parties ℕ) → IsShut seen → CallGoes Call.TryReadLock (try_read_look seen) done p → CallGoes Call.TryReadLock (After.Ends Answer.Interrupted) done p
-turned_away seen done p shut at = when_false Call.TryReadLock (lets_readers_in seen) (After.At (RwWriterPlace.TryRead seen (seen + 2))) (After.Ends Answer.Interrupted) done p (shut_word seen shut) at
+turned_away seen done p h1 h2 = grind (arith, nat_tests, eqb-true, eqb-false)
 
-comes_once : (seen : ℕ) (done : List (Slot ℕ)) (p : Parties ℕ) → seen % 2 ≡ 0 → seen < 2 ^ 64 - 4 → CallGoes Call.TryReadLock (try_read_look seen) done p → CallGoes Call.TryReadLock (After.At (RwWriterPlace.TryRead seen (seen + 2))) done p
-comes_once seen done p even room at = when_true Call.TryReadLock (lets_readers_in seen) (After.At (RwWriterPlace.TryRead seen (seen + 2))) (After.Ends Answer.Interrupted) done p (open_word seen even room) at
+comes_once : (seen : ℕ) (done : List (Slot ℕ)) (p : Parties ℕ) → IsOpen seen → CallGoes Call.TryReadLock (try_read_look seen) done p → CallGoes Call.TryReadLock (After.At (RwWriterPlace.TryRead seen (seen + 2))) done p
+comes_once seen done p h1 h2 = grind (arith, nat_tests, eqb-true, eqb-false)
 
-pub may_read_once : (seen more : ℕ) (done : List (Slot ℕ)) (p : Parties ℕ) → seen % 2 ≡ 0 → seen < 2 ^ 64 - 4 → more ≡ seen + 2 → CallGoes Call.TryReadLock (try_read_look seen) done p → TableHas Going 0 (λ w. Intent.Exchange w seen more) p
-may_read_once seen more done p even room is at = may_exchange Going Call.TryReadLock (RwWriterPlace.TryRead seen (seen + 2)) done p seen (seen + 2) more is refl (comes_once seen done p even room at)
+pub found_shut : (patience : Patience) (seen : ℕ) (done : List (Slot ℕ)) (p : Parties ℕ) → IsShut seen → CallGoes Call.ReadLock (read_look patience seen) done p → IsRefused rw_writer_model Call.ReadLock RwWriterPlace.ReadLook patience seen done p
+found_shut patience seen done p h1 h2 = grind (arith, nat_tests, eqb-true, eqb-false)
+
+comes_to_read : (patience : Patience) (seen : ℕ) (done : List (Slot ℕ)) (p : Parties ℕ) → IsOpen seen → CallGoes Call.ReadLock (read_look patience seen) done p → CallGoes Call.ReadLock (After.At (RwWriterPlace.Read seen (seen + 2) patience)) done p
+comes_to_read patience seen done p h1 h2 = grind (arith, nat_tests, eqb-true, eqb-false)
+
+-- its exchange
+
+pub may_read : (seen more : ℕ) (p : Parties ℕ) → IsOpen seen → more ≡ seen + 2 → MayEnter rw_writer_model RwWriterPlace.TryReadLook RwWriterPlace.ReadLook seen p → TableHas Going 0 (λ w. Intent.Exchange w seen more) p
+may_read seen more p room is (inl at) = may_exchange Going Call.TryReadLock (RwWriterPlace.TryRead seen (seen + 2)) at.0 p seen (seen + 2) more is refl (comes_once seen at.0 p room at.1)
+may_read seen more p room is (inr at) = may_exchange Going Call.ReadLock (RwWriterPlace.Read seen (seen + 2) at.0) at.1 p seen (seen + 2) more is refl (comes_to_read at.0 seen at.1 p room at.2)
 
 once_so : (seen found : ℕ) (b : Bool) (done : List (Slot ℕ)) (q : Parties ℕ) → (found == seen) ≡ b → Led rw_writer_model Call.TryReadLock (RwWriterPlace.TryRead seen (seen + 2)) None found done q →
     MatchBool b (Ended Call.TryReadLock Answer.Success (Some HoldKind.Read) done q) (Ended Call.TryReadLock Answer.Interrupted None done q)
 once_so seen found b done q h1 h2 = grind (arith, nat_tests, eqb-true, eqb-false)
 
-pub read_once : (seen found : ℕ) (done : List (Slot ℕ)) (p q : Parties ℕ) → seen % 2 ≡ 0 → seen < 2 ^ 64 - 4 → CallGoes Call.TryReadLock (try_read_look seen) done p → TableLed Going p found q →
+pub read_once : (seen found : ℕ) (done : List (Slot ℕ)) (p q : Parties ℕ) → IsOpen seen → CallGoes Call.TryReadLock (try_read_look seen) done p → TableLed Going p found q →
     MatchBool (found == seen) (Ended Call.TryReadLock Answer.Success (Some HoldKind.Read) done q) (Ended Call.TryReadLock Answer.Interrupted None done q)
-read_once seen found done p q even room at went = once_so seen found (found == seen) done q refl (went Call.TryReadLock (RwWriterPlace.TryRead seen (seen + 2)) None done (comes_once seen done p even room at))
+read_once seen found done p q room at went = once_so seen found (found == seen) done q refl (went Call.TryReadLock (RwWriterPlace.TryRead seen (seen + 2)) None done (comes_once seen done p room at))
 
--- a reader that waits
+read_so : (patience : Patience) (seen found : ℕ) (b : Bool) (done : List (Slot ℕ)) (q : Parties ℕ) → (found == seen) ≡ b → Led rw_writer_model Call.ReadLock (RwWriterPlace.Read seen (seen + 2) patience) None found done q →
+    MatchBool b (IsGranted rw_writer_model Call.ReadLock RwWriterPlace.ReadLook (Some HoldKind.Read) done q) (CallGoes Call.ReadLock (read_look patience found) done q)
+read_so patience seen found b done q h1 h2 = grind (arith, nat_tests, eqb-true, eqb-false)
 
-pub may_look_to_read : (way : Coming ℕ) (p : Parties ℕ) → MayTry rw_writer_model Call.ReadLock RwWriterPlace.ReadLook way p → TableHas way 0 (λ w. Intent.Load w) p
-may_look_to_read way p may = may_look way Call.ReadLock (RwWriterPlace.ReadLook may.patience) may.done p refl may.comes
-
-pub looked : (way : Coming ℕ) (found : ℕ) (p q : Parties ℕ) → TableLed way p found q → (patience : Patience) (done : List (Slot ℕ)) → Comes way Call.ReadLock (RwWriterPlace.ReadLook patience) done p → CallGoes Call.ReadLock (read_look patience found) done q
-looked way found p q went patience done comes = went Call.ReadLock (RwWriterPlace.ReadLook patience) None done comes
-
-pub found_shut : (patience : Patience) (seen : ℕ) (done : List (Slot ℕ)) (p : Parties ℕ) → IsShut seen → CallGoes Call.ReadLock (read_look patience seen) done p → IsRefused rw_writer_model Call.ReadLock RwWriterPlace.ReadLook patience seen done p
-found_shut patience seen done p h1 h2 = grind (arith, nat_tests, eqb-true, eqb-false)
-
-comes_to_read : (patience : Patience) (seen : ℕ) (done : List (Slot ℕ)) (p : Parties ℕ) → seen % 2 ≡ 0 → seen < 2 ^ 64 - 4 → CallGoes Call.ReadLock (read_look patience seen) done p → CallGoes Call.ReadLock (After.At (RwWriterPlace.Read seen (seen + 2) patience)) done p
-comes_to_read patience seen done p h1 h2 h3 = grind (arith, nat_tests, eqb-true, eqb-false)
-
-pub may_read : (patience : Patience) (seen more : ℕ) (done : List (Slot ℕ)) (p : Parties ℕ) → seen % 2 ≡ 0 → seen < 2 ^ 64 - 4 → more ≡ seen + 2 → CallGoes Call.ReadLock (read_look patience seen) done p → TableHas Going 0 (λ w. Intent.Exchange w seen more) p
-may_read patience seen more done p even room is at = may_exchange Going Call.ReadLock (RwWriterPlace.Read seen (seen + 2) patience) done p seen (seen + 2) more is refl (comes_to_read patience seen done p even room at)
-
-pub has_read : (patience : Patience) (seen found : ℕ) (done : List (Slot ℕ)) (p q : Parties ℕ) → seen % 2 ≡ 0 → seen < 2 ^ 64 - 4 → found ≡ seen → CallGoes Call.ReadLock (read_look patience seen) done p → TableLed Going p found q →
-    IsGranted rw_writer_model Call.ReadLock RwWriterPlace.ReadLook (Some HoldKind.Read) done q
-has_read patience seen found done p q h1 h2 h3 h4 h5 = grind (arith, nat_tests, eqb-true, eqb-false)
-
-pub looked_again : (patience : Patience) (seen found : ℕ) (done : List (Slot ℕ)) (p q : Parties ℕ) → seen % 2 ≡ 0 → seen < 2 ^ 64 - 4 → found ≢ seen → CallGoes Call.ReadLock (read_look patience seen) done p → TableLed Going p found q →
-    CallGoes Call.ReadLock (read_look patience found) done q
-looked_again patience seen found done p q h1 h2 h3 h4 h5 = grind (arith, nat_tests, eqb-true, eqb-false)
-
-pub first_read : (p : Parties ℕ) → MayTry rw_writer_model Call.ReadLock RwWriterPlace.ReadLook (Beginning Call.ReadLock) p
-first_read p = record { patience = spun 0; done = all_of p; comes = read_begins p }
+pub read_goes : (patience : Patience) (seen found : ℕ) (done : List (Slot ℕ)) (p q : Parties ℕ) → IsOpen seen → CallGoes Call.ReadLock (read_look patience seen) done p → TableLed Going p found q →
+    MatchBool (found == seen) (IsGranted rw_writer_model Call.ReadLock RwWriterPlace.ReadLook (Some HoldKind.Read) done q) (CallGoes Call.ReadLock (read_look patience found) done q)
+read_goes patience seen found done p q room at went = read_so patience seen found (found == seen) done q refl (went Call.ReadLock (RwWriterPlace.Read seen (seen + 2) patience) None done (comes_to_read patience seen done p room at))
 
 -- a writer that tries once
 

@@ -1,8 +1,8 @@
 -- What a writer's sights and tries come to, one after another.
 use Rattle.running_rw_writer.specs.Names.{is_some, MatchBool, dite, ℕ_discrete, Sights, View, Pass, IsWhole, IsSamePass, sights_of, seen_instead, looked, wrote, counts_of, counted, MarkedHolds, read_holds, write_holds, Holds}
 use Rattle.running_rw_writer.proofs.Names.{◌≡◌, ◌≢◌, ℕ, ◌+◌, ◌-◌, ◌%◌, ◌^◌, ◌<◌, ◌≤◌, ◌==◌, ◌&&◌, not, Bool, true, false, Option, Some, None, ◌⊎◌, inl, inr, refl, sym, ap, subst, ◌∙◌, arith, eqb_same}
-use Rattle.running_rw_writer.specs.RwWriterShown.{IsAloneWithin, IsShut, HasTried, HasJustSeen, HasMissedIt, MayGiveUp, HasGivenUpWriting, HasEnteredSeenFree, HasLeftReading, HasLeftWriting}
-use Rattle.running_rw_writer.specs.RwWriterSteps.{PlayedRwWriter, IsMarked, LoadedToWrite, Missed, WriterIn, flagged, written, no_more_read}
+use Rattle.running_rw_writer.specs.RwWriterShown.{IsAloneWithin, IsOpen, IsShut, HasTried, HasJustSeen, HasMissedIt, MayGiveUp, HasGivenUpWriting, HasEnteredSeenFree, HasLeftReading, HasLeftWriting}
+use Rattle.running_rw_writer.specs.RwWriterSteps.{word_of, PlayedRwWriter, IsMarked, LoadedToWrite, Missed, WriterIn, flagged, written, no_more_read}
 
 -- what a function of the lock's model says of a word, by whether it answers another word
 
@@ -12,19 +12,24 @@ not_free seen put entered none free told is =
     omega (arith, never)
 
 pub reads_some : (seen to : ℕ) (answer : Option ℕ) → (seen % 2 ≡ 0 → seen < 2 ^ 64 - 4 → answer ≡ Some (seen + 2)) → (seen % 2 ≡ 1 → answer ≡ None) → (2 ^ 64 - 4 ≤ seen → answer ≡ None) → answer ≡ Some to →
-    (seen % 2 ≡ 0) × (seen < 2 ^ 64 - 4) × (to ≡ seen + 2)
+    IsOpen seen × (to ≡ seen + 2)
 reads_some seen to answer two_more odd full is =
     let not_odd : seen % 2 ≡ 1 → ⊥ = λ one. let no = odd one in cc in
     let not_full : 2 ^ 64 - 4 ≤ seen → ⊥ = λ above. let no = full above in cc in
     let even : seen % 2 ≡ 0 = omega (arith, not_odd) in
     let room : seen < 2 ^ 64 - 4 = omega (arith, not_full) in
-    (even, room, let more = two_more even room in cc)
+    ((even, room), let more = two_more even room in cc)
 
 pub reads_none : (seen : ℕ) (answer : Option ℕ) → (seen % 2 ≡ 0 → seen < 2 ^ 64 - 4 → answer ≡ Some (seen + 2)) → answer ≡ None → IsShut seen
 reads_none seen answer two_more is = dite (ℕ_discrete (seen % 2) 1) (λ odd. inl odd)
     (λ other. let even : seen % 2 ≡ 0 = omega (arith, other) in
     let no_room : seen < 2 ^ 64 - 4 → ⊥ = λ room. let more = two_more even room in cc in
     inr (omega (arith, no_room)))
+
+-- where a pass is alone, a reader enters
+pub never_shut : (seen : ℕ) (t : MarkedHolds) → IsShut seen → read_holds t.held ≡ 0 → write_holds t.held ≡ 0 → seen ≡ word_of t → ⊥
+never_shut seen t (inl odd) reads writes is = omega (arith, is, odd, reads, writes)
+never_shut seen t (inr full) reads writes is = omega (arith, is, full, reads, writes)
 
 pub marks_some : (seen to : ℕ) (answer : Option ℕ) → (seen % 2 ≡ 0 → seen ≢ 2 ^ 64 - 2 → answer ≡ Some (seen + 1)) → (seen % 2 ≡ 1 → answer ≡ None) → (seen ≡ 2 ^ 64 - 2 → answer ≡ None) → answer ≡ Some to →
     (seen % 2 ≡ 0) × (seen ≢ 2 ^ 64 - 2) × (to ≡ seen + 1)

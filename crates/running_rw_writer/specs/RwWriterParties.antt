@@ -1,5 +1,5 @@
 -- The party of the model that a pass of a writer-preferring lock is, and how its calls go.
-use Rattle.running_rw_writer.specs.Names.{◌≡◌, ◌⊎◌, ℕ, false, ◌==◌, if◌then◌else◌, Bool, List, [], ◌∷◌, Some, None, WaitAction, Word, Call, Answer, HoldKind, Patience, Intent, After, Leaver, RwWriterPlace, rw_writer_table, read_look, woken_one, rw_writer_model, Slot, Parties, Coming, Answered, ComesBy, IsHolding, Leads, HasEnded, MayStep, Went, is_holding}
+use Rattle.running_rw_writer.specs.Names.{◌≡◌, ◌⊎◌, ℕ, false, ◌==◌, if◌then◌else◌, Bool, List, [], ◌∷◌, Some, None, WaitAction, Word, Call, Answer, HoldKind, Patience, Intent, After, Leaver, RwWriterPlace, rw_writer_table, woken_one, rw_writer_model, Slot, Parties, Coming, Answered, ComesBy, IsHolding, Leads, HasEnded, MayStep, Went, is_holding}
 
 -- a party of the pass has a hold of this kind
 abbrev pub has_hold : HoldKind → Parties ℕ → Bool
@@ -16,10 +16,6 @@ TableLed coming p found q = Went rw_writer_model coming p found q
 -- a call goes on so, by a party that has no hold before
 abbrev pub CallGoes : Call ℕ → After ℕ RwWriterPlace → List (Slot ℕ) → Parties ℕ → Type 0
 CallGoes call after done p = Leads rw_writer_model call after None done p
-
--- a `ReadLock` saw this last, and goes on so
-abbrev pub HasLooked : Patience → ℕ → List (Slot ℕ) → Parties ℕ → Type 0
-HasLooked patience seen done p = CallGoes Call.ReadLock (read_look patience seen) done p
 
 -- so, a `WriteLock`
 abbrev pub WriteGoes : After ℕ RwWriterPlace → List (Slot ℕ) → Parties ℕ → Type 0

@@ -5,7 +5,7 @@ use Rattle.running_rw_writer.specs.declared.RwLockWriterPreference.{RwLockWriter
 use Rattle.running_rw_writer.specs.declared.pass.RwWriterPass.{RwWriterPass}
 use Rattle.running_rw_hold.specs.RwShown.{IsReadHold, IsWriteHold, kind_of, pass_of, TurnsAway}
 use Rattle.running_rw_writer.specs.RwWriterParties.{Unlocks, unlocked, WriteGivesUp}
-use Rattle.running_rw_writer.specs.RwWriterSteps.{PlayedRwWriter, IsMarked, IsOnly, word_of, read, no_more_read, written, no_more_written, flagged}
+use Rattle.running_rw_writer.specs.RwWriterSteps.{PlayedRwWriter, IsMarked, IsOnly, read, no_more_read, written, no_more_written, flagged}
 
 -- the pass inside, between two calls
 abbrev pub pass_in : RwWriterPass → Pass PlayedRwWriter
@@ -63,15 +63,6 @@ pub record EntersToRead (part : Part) (t u : MarkedHolds) (last : ℕ) : Type 0 
 -- so, and nothing else changed but what was seen on the way
 abbrev pub HasEnteredToRead : Pass PlayedRwWriter → Pass PlayedRwWriter → Type 0
 HasEnteredToRead = HasMoved EntersToRead
-
--- Within a `read_lock`: it saw the lock, this last, and counted nothing. Where no other pass is left, it looked once, and saw what its holds come
--- to.
-pub record HasSeenLast (found : ℕ) (p q : Pass PlayedRwWriter) : Type 0 where
-  pub stayed : HasOnlySeen p q
-  pub more : (sights_of p).count + 1 ≤ (sights_of q).count
-  pub last : (sights_of q).last ≡ found
-  pub once : IsOnly (part_of p) (tally_of p) → (sights_of q).count ≡ (sights_of p).count + 1
-  pub says : IsOnly (part_of p) (tally_of p) → found ≡ word_of (tally_of p)
 
 -- one look saw the value from which the read hold was then turned on, and nothing else changed
 abbrev pub HasReadAtOnce : Pass PlayedRwWriter → Pass PlayedRwWriter → Type 0

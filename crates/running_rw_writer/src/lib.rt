@@ -14,6 +14,7 @@ ghost use Rattle.running_rw_writer.specs.RwWriterSteps.{GrantsAreOfARun, NoHoldB
 mod deeds;
 mod pass;
 mod reading;
+mod shares;
 mod steps;
 mod writing;
 
@@ -22,7 +23,9 @@ use model_rw_writer::RwWriterPlace;
 pub use pass::RwWriterPass;
 use running_model::Stage;
 use running_passes::WaitResult;
-use running_rw_hold::{RwHold, end_read_hold, end_write_hold, read_hold, write_hold};
+use running_rw_hold::{
+    RwHold, end_read_hold, end_write_hold, read_hold, try_to_read, wait_to_read, write_hold,
+};
 use running_tallies::{MarkedHolds, RwWriterScript, WaitWord};
 use std::alloc::{AllocError, Allocator, Global};
 use std::sync::Wait;
@@ -83,7 +86,7 @@ impl<A: Allocator> RwLockWriterPreference<A> {
         ensures played { IfSuccess result (λ hold. HasPlayed calls.TryReadLock answers.Success (Some kinds.Read) (pass_in pass.old) (pass_in (pass_of hold))) }
         ensures exact { IsAlone pass.old → IsSuccess result }
     {
-        if this.try_to_read(&mut pass.pass) {
+        if try_to_read(this, &mut pass.pass) {
             WaitResult::Success(RwHold::Read(read_hold(pass)))
         } else {
             WaitResult::Interrupted
@@ -110,7 +113,7 @@ impl<A: Allocator> RwLockWriterPreference<A> {
         ensures exact { IsAlone pass.old → IsSuccess result }
         ensures aborted { IfInterrupted result (MayAnswerAbort W.Fn wait IsShut) }
     {
-        if this.wait_to_read(&mut pass.pass, rt, &wait) {
+        if wait_to_read(this, &mut pass.pass, rt, &wait) {
             WaitResult::Success(RwHold::Read(read_hold(pass)))
         } else {
             WaitResult::Interrupted

@@ -2,8 +2,7 @@
 ghost use Rattle.std.specs.Prelude.{◌≡◌, ◌-◌, ◌^◌};
 
 use crate::deeds::{
-    ComeToRead, ComeToWrite, Count, LeaveReading, LeaveWriting, Look, LookToWrite, SetMark,
-    TakeMark,
+    ComeToWrite, Count, LeaveReading, LeaveWriting, LookToWrite, SetMark, TakeMark,
 };
 use crate::{COUNTER, LOCK, RwLockWriterPreference};
 use model_rw_writer::writer_enters;
@@ -40,46 +39,6 @@ impl<A: Allocator> RwLockWriterPreference<A> {
     ghost use Rattle.running_rw_writer.specs.RwWriterParties.{has_hold, TableHas, TableLed, SomeCallGoes, GoesFromTo, WriteGoes, ComesToWrite, IsToWakeBoth, Unlocks};
     ghost use Rattle.running_rw_writer.specs.RwWriterSteps.{IsMarked, SaysAlone, WriterIn, Unchanged, read};
     ghost use Rattle.running_rw_writer.specs.RwWriterShown.{reads_of, writes_of, HasTried, HasJustSeen, HasMissedIt, MayGiveUp, HasGivenUpWriting, HasLeftReading, HasLeftWriting};
-
-    /// A load by a reader.
-    #[inline(always)]
-    pub(crate) fn look<'p, W: Way<u64>>(
-        &self,
-        turn: Turn<'p, PlayedPass, W>,
-    ) -> (u64, Turn<'p, PlayedPass, Goes>)
-        requires own { IsPassOf self.now.stage turn.pass.now }
-        requires may { TableHas W.coming 0 (λ w. intents.Load w) (parties_of turn.pass.now) }
-        ensures same_borrow { result.1.pass.ghost_name ≡ turn.entry.pass.ghost_name }
-        ensures saw { HasSeen result.0 turn.entry.pass.now result.1.pass.now }
-        ensures went { TableLed W.coming (parties_of turn.entry.pass.now) result.0 (parties_of result.1.pass.now) }
-        ensures alone { SaysAlone (counted turn.entry.pass.now) result.0 }
-    {
-        turn.load_by::<(), A, Look>(&self.stage, LOCK)
-    }
-
-    /// An exchange of the value seen for two more, and the value that it found.
-    #[inline(always)]
-    pub(crate) fn come_to_read<'p>(
-        &self,
-        turn: Turn<'p, PlayedPass, Goes>,
-        seen: u64,
-        more: u64,
-    ) -> (u64, Turn<'p, PlayedPass, Goes>)
-        requires own { IsPassOf self.now.stage turn.pass.now }
-        requires even { seen % 2 ≡ 0 }
-        requires room { seen < 2 ^ 64 - 4 }
-        requires more { more ≡ seen + 2 }
-        requires may { TableHas Going 0 (λ w. intents.Exchange w seen more) (parties_of turn.pass.now) }
-        ensures same_borrow { result.1.pass.ghost_name ≡ turn.entry.pass.ghost_name }
-        ensures went { TableLed Going (parties_of turn.entry.pass.now) result.0 (parties_of result.1.pass.now) }
-        ensures done { result.0 ≡ seen → HasDone read turn.entry.pass.now result.1.pass.now }
-        ensures reads { result.0 ≡ seen → reads_of result.1.pass.now ≡ reads_of turn.entry.pass.now + 1 }
-        ensures writes { result.0 ≡ seen → (writes_of turn.entry.pass.now ≡ 0) × (writes_of result.1.pass.now ≡ 0) }
-        ensures failed { result.0 ≢ seen → HasMissed seen result.0 turn.entry.pass.now result.1.pass.now }
-        ensures alone { SaysAlone (counted turn.entry.pass.now) result.0 }
-    {
-        turn.exchange_by::<(), A, ComeToRead>(&self.stage, LOCK, seen, more)
-    }
 
     /// A subtraction of 2, by a pass that has a read hold, and the value that it found.
     #[inline(always)]

@@ -8,6 +8,8 @@ ghost use Rattle.running_model.specs.Passes.{parties_of, counts_of};
 ghost use Rattle.running_model.specs.Stages.{count_of};
 ghost use Rattle.running_semaphore.specs.SemaphoreSteps.{PermitsAreOfARun};
 
+mod shares;
+
 use model_events::WaitAction;
 use model_semaphore::{SemaphorePlace, taken};
 use running_model::turn::{Attempt, Called, Goes, Turn, Way, begin_new, try_again};

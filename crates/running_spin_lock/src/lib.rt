@@ -12,6 +12,7 @@ mod pass;
 mod poison;
 mod rule;
 mod script;
+mod shares;
 mod spin_lock;
 
 pub use guard::SpinLockGuard;

@@ -1,4 +1,5 @@
-//! The tests of the explorer, apart from it, so that it is proved once. What it answers is tested by the tables of `texts/sync-explore`.
+//! The tests of the explorer and of covering charts, apart from it, so that it is proved once. What it answers is tested by the tables of
+//! `texts/sync-explore`.
 #![tactic(auto)]
 
 #[cfg(test)]

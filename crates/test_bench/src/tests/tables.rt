@@ -85,12 +85,7 @@ fn no_rounds_print_the_head(rt: HostRuntime) -> Result<(), Fail> {
 }
 
 /// How many rounds are asked for, what each took, in nanoseconds, and the figure of each line. A round makes 100000 operations.
-const ROUNDS: [(&[u8], u64, &str); 4] = [
-    (b"1", 0, "0.00"),
-    (b"1", 4_999, "0.04"),
-    (b"3", 1_234_599, "12.34"),
-    (b"1", 100_005_000, "1000.05"),
-];
+const ROUNDS: [(&[u8], u64, &str); 2] = [(b"1", 4_999, "0.04"), (b"2", 100_005_000, "1000.05")];
 
 /// The table each of whose lines has three times this figure.
 fn table_of(alloc: Global, figure: &str) -> Result<String, AllocError> {

@@ -1,9 +1,9 @@
-use Rattle.running_rw_reader.specs.Names.{Call, Answer, HoldKind, all_of, spun, parties_of, IsNamed, rw_reader_model, Word, View, Beginning, HasGivenUp, Holds}
-use Rattle.running_rw_reader.proofs.Names.{MatchBool-at_true, is_over, either_is_over, ◌≡◌, ℕ, true, Some, None, MatchBool, [], ◌∷◌, ◌∙◌, refl, sym, ap, subst, gives_up_on}
+use Rattle.running_rw_reader.specs.Names.{Call, Answer, HoldKind, all_of, spun, parties_of, IsNamed, rw_reader_model, Word, Beginning, HasGivenUp}
+use Rattle.running_rw_reader.proofs.Names.{MatchBool-at_true, is_over, either_is_over, ◌≡◌, ℕ, true, Some, None, MatchBool, [], ◌∷◌, ◌∙◌, refl, sym, subst}
 use Rattle.running_rw_reader.specs.RwReaderParties.{has_hold}
-use Rattle.running_rw_reader.specs.RwReaderShown.{IsTaken, EntersToWrite, HasEnteredToWrite, HasPlayed}
+use Rattle.running_rw_reader.specs.RwReaderShown.{IsTaken, HasEnteredToWrite, HasPlayed}
 use Rattle.running_rw_reader.proofs.RwReaderPlays.{may_write, first_write, write_begins, has_written, found_taken, granted_has}
-use Rattle.running_rw_reader.proofs.RwReaderTries.{taken_at}
+use Rattle.running_rw_reader.proofs.RwReaderTries.{ends}
 use Rattle.running_rw_reader.proofs.RwLockReaderPreference.wait_to_write.Goals as goal
 
 pub first_write-requires-clause-may : goal.first_write-requires-clause-may
@@ -49,7 +49,7 @@ pub returns-in-Ok-clause-aborted : goal.returns-in-Ok-clause-aborted
 returns-in-Ok-clause-aborted g c = λ no. absurd cc
 
 pub returns-in-Err-clause-entered : goal.returns-in-Err-clause-entered
-returns-in-Err-clause-entered g c = subst (λ q. MatchBool c.try_again-entered.result.0 (HasEnteredToWrite c.args.pass.now q) (HasGivenUp g.W.Fn c.args.wait.now IsTaken c.args.pass.now q)) (sym (c.pass-in-Err-1.given.1 (sym c.in-Err.ensures.same_borrow_too ∙ sym c.try_again-entered.ensures.same_borrow ∙ sym c.end-pass-in-Err.ensures.same_borrow) ∙ c.end-pass-in-Err.ensures.still)) (let saw = c.in-Err.ensures.refused in gives_up_on _ _ _ EntersToWrite _ _ _ _ _ (taken_at _ _ _ saw.0 saw.1 c.in-Err.ensures.missed.0) (ap (λ (v : View Holds). v.sights.count) saw.0.2) c.try_again-entered.ensures.told (λ no. c.try_again-entered.ensures.asked no tt))
+returns-in-Err-clause-entered g c = subst (λ q. MatchBool c.try_again-entered.result.0 (HasEnteredToWrite c.args.pass.now q) (HasGivenUp g.W.Fn c.args.wait.now IsTaken c.args.pass.now q)) (sym (c.pass-in-Err-1.given.1 (sym c.in-Err.ensures.same_borrow_too ∙ sym c.try_again-entered.ensures.same_borrow ∙ sym c.end-pass-in-Err.ensures.same_borrow) ∙ c.end-pass-in-Err.ensures.still)) (let saw = c.in-Err.ensures.refused in ends _ _ _ _ _ _ _ saw.0 saw.1 c.in-Err.ensures.missed.0 c.try_again-entered.ensures.told (λ no. c.try_again-entered.ensures.asked no tt))
 
 pub returns-in-Err-clause-played : goal.returns-in-Err-clause-played
 returns-in-Err-clause-played g c = subst (λ q. MatchBool c.try_again-entered.result.0 (HasPlayed Call.WriteLock Answer.Success (Some HoldKind.Write) c.args.pass.now q) (HasPlayed Call.WriteLock Answer.Interrupted None c.args.pass.now q)) (sym (c.pass-in-Err-1.given.1 (sym c.in-Err.ensures.same_borrow_too ∙ sym c.try_again-entered.ensures.same_borrow ∙ sym c.end-pass-in-Err.ensures.same_borrow) ∙ c.end-pass-in-Err.ensures.still)) (c.try_again-entered.ensures.over (all_of (parties_of c.args.pass.now)) (found_taken (Beginning Call.WriteLock) _ (parties_of c.args.pass.now) _ c.in-Err.ensures.missed.0 c.in-Err.ensures.missed.1 (spun 0) _ (write_begins (parties_of c.args.pass.now))))

@@ -1,0 +1,30 @@
+use Rattle.std.proofs.Common.{◌≡◌, true, Some, None, MatchBool, ◌∙◌, refl, sym, ap, subst, arith}
+use Rattle.std.proofs.lemmas.Bool.{MatchBool-at_true}
+use Rattle.model_events.specs.declared.event.Call.{Call}
+use Rattle.model_events.specs.declared.event.Answer.{Answer}
+use Rattle.model_events.specs.declared.hold.HoldKind.{HoldKind}
+use Rattle.running_passes.specs.Answers.{HasAsked}
+use Rattle.running_model.specs.Counts.{HasMoved, WasRefused}
+use Rattle.running_model.specs.Holding.{is_holding}
+use Rattle.running_model.specs.Passes.{parties_of}
+use Rattle.running_model.specs.Plays.{HasCalled}
+use Rattle.running_model.specs.Slots.{all_of}
+use Rattle.running_model.proofs.Attempts.{still_so, asked_after}
+use Rattle.running_model.proofs.Holding.{holding_is}
+use Rattle.running_model.proofs.Over.{is_over, either_is_over}
+use Rattle.running_rw_hold.proofs.RwTries.{told_on}
+use Rattle.running_rw_hold.proofs.reading.wait_to_read.Goals as goal
+
+pub returns-in-Ok-clause-has : goal.returns-in-Ok-clause-has
+returns-in-Ok-clause-has g c = λ _. subst (λ q. is_holding (g.M.Script.model tt).table HoldKind.Read (parties_of q) ≡ true) (sym (c.pass-1.given.1 (sym c.in-Ok.ensures.same_borrow ∙ sym c.end-pass.ensures.same_borrow) ∙ c.end-pass.ensures.still)) (holding_is (g.M.Script.model tt) HoldKind.Read _ _ c.in-Ok.ensures.granted.rests)
+
+pub returns-in-Err-clause-entered : goal.returns-in-Err-clause-entered
+returns-in-Err-clause-entered g c = subst (λ q. MatchBool c.read_later-entered.result.0 (HasMoved g.L.ReadSteps.moves c.args.pass.now q) (WasRefused g.L.ReadSteps.refuses 10002 c.args.pass.now q)) (sym (c.pass-in-Err-1.given.1 (sym c.in-Err.ensures.same_borrow_too ∙ sym c.read_later-entered.ensures.same_borrow ∙ sym c.end-pass-in-Err.ensures.same_borrow) ∙ c.end-pass-in-Err.ensures.still))
+    (told_on g.L.ReadSteps.moves g.L.ReadSteps.refuses 1 10001 10002 c.args.pass.now c.in-Err.next.pass.now c.read_later-entered.result.1.pass.now _ (omega arith) c.in-Err.ensures.looked.stayed c.in-Err.ensures.looked.more c.read_later-entered.ensures.told)
+
+pub returns-in-Err-clause-has : goal.returns-in-Err-clause-has
+returns-in-Err-clause-has g c = λ done. subst (λ q. is_holding (g.M.Script.model tt).table HoldKind.Read (parties_of q) ≡ true) (sym (c.pass-in-Err-1.given.1 (sym c.in-Err.ensures.same_borrow_too ∙ sym c.read_later-entered.ensures.same_borrow ∙ sym c.end-pass-in-Err.ensures.same_borrow) ∙ c.end-pass-in-Err.ensures.still)) (holding_is (g.M.Script.model tt) HoldKind.Read _ _ (MatchBool-at_true _ _ done (c.read_later-entered.ensures.over (all_of (parties_of c.args.pass.now)) c.in-Err.ensures.goes_on)).rests)
+
+pub returns-in-Err-clause-asked : goal.returns-in-Err-clause-asked
+returns-in-Err-clause-asked g c = λ only no. subst (λ q. HasAsked g.W.Fn c.args.wait.now g.L.ReadSteps.refuses 10001 c.args.pass.now q) (sym (c.pass-in-Err-1.given.1 (sym c.in-Err.ensures.same_borrow_too ∙ sym c.read_later-entered.ensures.same_borrow ∙ sym c.end-pass-in-Err.ensures.same_borrow) ∙ c.end-pass-in-Err.ensures.still))
+    (asked_after _ _ _ 1 10000 c.args.pass.now c.in-Err.next.pass.now c.read_later-entered.result.1.pass.now (c.in-Err.ensures.looked.once only) (c.read_later-entered.ensures.asked (λ _. c.in-Err.ensures.looked.says only ∙ sym (ap g.L.ReadSteps.word_of c.in-Err.ensures.looked.stayed.counts)) (still_so g.L.ReadSteps.only c.args.pass.now c.in-Err.next.pass.now c.in-Err.ensures.looked.stayed only) no))

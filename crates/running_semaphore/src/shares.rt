@@ -1,0 +1,28 @@
+//! Its pass can be parted, for many threads.
+
+use crate::{SemPass, Semaphore};
+use running_sharing::Shares;
+use std::alloc::Allocator;
+
+impl<A: Allocator> Shares<Semaphore<A>> for SemPass {
+    ghost use Rattle.running_passes.specs.Passes.{part_of};
+    ghost use Rattle.running_semaphore.specs.SemaphoreShown.{IsSemPass};
+
+    ghost idle = { IsSemPass };
+
+    ghost part = { part_of };
+
+    fn cut(self, of: &Semaphore<A>) -> (SemPass, SemPass) {
+        let Ok(parts) = self.split(of) else {
+            unreachable!()
+        };
+        parts
+    }
+
+    fn mend(one: SemPass, other: SemPass, of: &Semaphore<A>) -> SemPass {
+        let Ok(pass) = SemPass::join(one, other, of) else {
+            unreachable!()
+        };
+        pass
+    }
+}

@@ -1,0 +1,6 @@
+//! The tests of what plays, shows and explores schedule texts, apart from it, so that it is proved once. What programs print of texts is
+//! tested by the tables of `texts`.
+#![tactic(auto)]
+
+#[cfg(test)]
+mod tests;

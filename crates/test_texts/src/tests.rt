@@ -1,0 +1,5 @@
+mod draw;
+mod every_byte;
+mod play;
+mod programs;
+mod streams;
