@@ -113,4 +113,3 @@ reader_out_counts way p v some call place hold done comes past e found step name
     let leaves = goes_out same_nothing tells_same_nothing tt (word_in rw_reader_table past Word.State) v.tally rest so.before some in
     so.after (subst (λ (h : Holds). Locks left tt (both_holds h rest)) (sym (ap (λ (u : View Holds). u.tally) told.done))
     (subst (λ n. Locks n tt (both_holds (no_more_read v.tally) rest)) (omega (arith, so.told, so.fits, leaves.some)) leaves.locks))
-
