@@ -1,3 +1,2 @@
-pub mod RwHolds
 pub mod RwJoins
 pub mod RwTries

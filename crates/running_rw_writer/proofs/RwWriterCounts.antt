@@ -164,4 +164,3 @@ unmark_counts way p v from to set less call place hold done comes past e found s
     (λ hit. no_more v.tally w.tally (ap (λ (u : View MarkedHolds). u.tally.read_grants) (told.done hit)) (ap (λ (u : View MarkedHolds). u.tally.write_grants) (told.done hit)))
     (λ miss. saw_more v found (seen_instead v.sights from found) w (told.failed miss))
     is
-

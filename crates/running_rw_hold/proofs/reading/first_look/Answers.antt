@@ -1,7 +1,6 @@
-use Rattle.std.proofs.Common.{sym, subst}
-use Rattle.running_model.specs.Passes.{parties_of}
+use Rattle.std.proofs.Common.{subst}
 use Rattle.running_model.specs.Plays.{Beginning}
-use Rattle.running_rw_hold.specs.RwReading.{MayLook, HasLookedAt}
+use Rattle.running_rw_hold.specs.RwReading.{HasLookedAt}
 use Rattle.running_rw_hold.proofs.reading.first_look.Goals as goal
 
 pub returns-clause-looked : goal.returns-clause-looked

@@ -1,5 +1,5 @@
-use Rattle.std.proofs.Common.{◌∙◌, inr, arith}
-use Rattle.std.proofs.lemmas.Bool.{MatchBool-at_true, MatchBool-at_false, ne_eqb}
+use Rattle.std.proofs.Common.{inr, arith}
+use Rattle.std.proofs.lemmas.Bool.{MatchBool-at_true}
 use Rattle.running_model.specs.Passes.{parties_of}
 use Rattle.running_model.specs.Slots.{all_of}
 use Rattle.running_model.specs.Tries.{spun}

@@ -1,7 +1,7 @@
-use Rattle.std.proofs.Common.{◌∙◌, refl, inr}
-use Rattle.std.proofs.lemmas.Bool.{MatchBool-at_true, MatchBool-at_false, ne_eqb}
+use Rattle.std.proofs.Common.{◌∙◌, refl}
+use Rattle.std.proofs.lemmas.Bool.{MatchBool-at_false, ne_eqb}
 use Rattle.running_model.proofs.Attempts.{seen_none, seen_twice, missed_once}
-use Rattle.running_rw_hold.proofs.RwTries.{last_missed, entered, found_again, surely}
+use Rattle.running_rw_hold.proofs.RwTries.{last_missed, found_again}
 use Rattle.running_rw_hold.proofs.reading.read_from.Goals as goal
 
 pub loop-init : goal.loop-init

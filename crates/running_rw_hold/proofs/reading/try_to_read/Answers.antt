@@ -1,4 +1,4 @@
-use Rattle.std.proofs.Common.{◌≡◌, ◌==◌, true, Some, None, MatchBool, inl, inr, ◌∙◌, sym, subst}
+use Rattle.std.proofs.Common.{◌≡◌, ◌==◌, true, Some, None, MatchBool, inl, ◌∙◌, sym, subst}
 use Rattle.std.proofs.lemmas.Bool.{MatchBool-at_true, eqb-true}
 use Rattle.model_events.specs.declared.event.Call.{Call}
 use Rattle.model_events.specs.declared.event.Answer.{Answer}
@@ -9,12 +9,11 @@ use Rattle.running_model.specs.Passes.{parties_of, counted}
 use Rattle.running_model.specs.Plays.{HasCalled}
 use Rattle.running_model.specs.Slots.{all_of}
 use Rattle.running_model.specs.Tries.{spun}
-use Rattle.running_model.proofs.Attempts.{seen_once}
 use Rattle.running_model.proofs.Holding.{holding_is}
 use Rattle.running_model.proofs.Over.{is_over, either_is_over}
 use Rattle.running_rw_hold.specs.RwShown.{TurnsAway}
 use Rattle.running_rw_hold.specs.RwReading.{HasReadFrom}
-use Rattle.running_rw_hold.proofs.RwTries.{begins_so, found_shut, tried_once, entered_at_once, found_again, surely}
+use Rattle.running_rw_hold.proofs.RwTries.{begins_so, found_shut, tried_once, entered_at_once}
 use Rattle.running_rw_hold.proofs.reading.try_to_read.Goals as goal
 
 pub first_look-seen-requires-clause-may : goal.first_look-seen-requires-clause-may

@@ -28,3 +28,6 @@ returns-in-Err-clause-played g c = subst (λ q. MatchBool c.try_again-entered.re
 
 pub returns-in-Err-clause-has : goal.returns-in-Err-clause-has
 returns-in-Err-clause-has g c = λ done. subst (λ q. has_hold HoldKind.Write (parties_of q) ≡ true) (sym (c.pass-in-Err-1.given.1 (sym c.in-Err.ensures.same_borrow_too ∙ sym c.try_again-entered.ensures.same_borrow ∙ sym c.end-pass-in-Err.ensures.same_borrow) ∙ c.end-pass-in-Err.ensures.still)) (granted_has Call.WriteLock HoldKind.Write _ _ (MatchBool-at_true _ _ done (c.try_again-entered.ensures.over (all_of (parties_of c.args.pass.now)) (found_taken (Beginning Call.WriteLock) _ (parties_of c.args.pass.now) _ c.in-Err.ensures.missed.0 c.in-Err.ensures.missed.1 (spun 0) _ (write_begins (parties_of c.args.pass.now))))))
+
+pub returns-in-Err-clause-aborted : goal.returns-in-Err-clause-aborted
+returns-in-Err-clause-aborted g c = c.try_again-entered.ensures.aborted

@@ -1,6 +1,6 @@
-use Rattle.std.proofs.Common.{◌≡◌, ◌∙◌, inr, arith}
-use Rattle.running_model.proofs.Attempts.{seen_once, seen_twice, still_so, moved_later}
-use Rattle.running_rw_hold.proofs.RwTries.{one_more, last_seen}
+use Rattle.std.proofs.Common.{◌≡◌, ◌∙◌, arith}
+use Rattle.running_model.proofs.Attempts.{seen_once, seen_twice, still_so}
+use Rattle.running_rw_hold.proofs.RwTries.{one_more}
 use Rattle.running_rw_hold.proofs.reading.ReaderAttemptUnitU64.attempt.Goals as goal
 
 pub returns-in-Err-clause-refused : goal.returns-in-Err-clause-refused
