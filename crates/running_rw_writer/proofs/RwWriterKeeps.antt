@@ -69,7 +69,7 @@ abbrev Made : Call ℕ → ℕ → ℕ → ℕ → View MarkedHolds → View Mar
 Made call from to found v w = w ≡ view_of v.part (marked_sees (Act.Exchange Word.State from to found (found == from)) v.sights) (marked_after (Act.Exchange Word.State from to found (found == from)) call v.tally)
 
 -- for two more it turned a read hold on
-made_read : (call : Call ℕ) (from to found : ℕ) (v w : View MarkedHolds) → to ≡ from + 2 → Made call from to found v w → (found ≡ from → w ≡ wrote v (read v.tally)) × (found ≢ from → w ≡ missed v from found)
+pub made_read : (call : Call ℕ) (from to found : ℕ) (v w : View MarkedHolds) → to ≡ from + 2 → Made call from to found v w → (found ≡ from → w ≡ wrote v (read v.tally)) × (found ≢ from → w ≡ missed v from found)
 made_read call from to found v w h1 h2 = grind (arith, nat_tests, eqb-true, eqb-false)
 
 -- for 2 ^ 64 - 1 the write hold
@@ -77,11 +77,11 @@ made_write : (call : Call ℕ) (from to found : ℕ) (v w : View MarkedHolds) �
 made_write call from to found v w h1 h2 h3 = grind (arith, nat_tests, eqb-true, eqb-false)
 
 -- for one more it set the mark
-made_mark : (call : Call ℕ) (from to found : ℕ) (v w : View MarkedHolds) → from % 2 ≡ 0 → from ≢ 2 ^ 64 - 2 → to ≡ from + 1 → Made call from to found v w → (found ≡ from → w ≡ wrote v (flagged 1 v.tally)) × (found ≢ from → Missed from v found w)
-made_mark call from to found v w h1 h2 h3 h4 = grind (arith, nat_tests, eqb-true, eqb-false)
+pub made_mark : (call : Call ℕ) (from to found : ℕ) (v w : View MarkedHolds) → from ≢ 2 ^ 64 - 2 → to ≡ from + 1 → Made call from to found v w → (found ≡ from → w ≡ wrote v (flagged 1 v.tally)) × (found ≢ from → Missed from v found w)
+made_mark call from to found v w h1 h2 h3 = grind (arith, nat_tests, eqb-true, eqb-false)
 
 -- and for one less it took it away
-made_unmark : (call : Call ℕ) (from to found : ℕ) (v w : View MarkedHolds) → IsMarked from → to ≡ from - 1 → Made call from to found v w → (found ≡ from → w ≡ wrote v (flagged 0 v.tally)) × (found ≢ from → Missed from v found w)
+pub made_unmark : (call : Call ℕ) (from to found : ℕ) (v w : View MarkedHolds) → IsMarked from → to ≡ from - 1 → Made call from to found v w → (found ≡ from → w ≡ wrote v (flagged 0 v.tally)) × (found ≢ from → Missed from v found w)
 made_unmark call from to found v w h1 h2 h3 = grind (arith, nat_tests, eqb-true, eqb-false)
 
 -- beside others a reader comes in where no writer is
@@ -98,15 +98,6 @@ module _ (way : Coming ℕ) (from to found : ℕ) (p q : Pass PlayedRwWriter) (m
 
   pub exchanges_alone : Alone way found p → SaysAlone (counted p) found
   exchanges_alone = found_alone way (λ k. Intent.Exchange k from to) found p may (λ w memory. refl)
-
-  pub reads : to ≡ from + 2 → (found ≡ from → counted q ≡ wrote (counted p) (read (counts_of p))) × (found ≢ from → counted q ≡ missed (counted p) from found)
-  reads more = made_read may.call from to found (counted p) (counted q) more exchanges
-
-  pub marks : from % 2 ≡ 0 → from ≢ 2 ^ 64 - 2 → to ≡ from + 1 → (found ≡ from → counted q ≡ wrote (counted p) (flagged 1 (counts_of p))) × (found ≢ from → Missed from (counted p) found (counted q))
-  marks even other more = made_mark may.call from to found (counted p) (counted q) even other more exchanges
-
-  pub unmarks : IsMarked from → to ≡ from - 1 → (found ≡ from → counted q ≡ wrote (counted p) (flagged 0 (counts_of p))) × (found ≢ from → Missed from (counted p) found (counted q))
-  unmarks set less = made_unmark may.call from to found (counted p) (counted q) set less exchanges
 
   module _ (share : Share way found p) where
     pub writers_in : Alone way found p → from < 2 → to ≡ 2 ^ 64 - 1 → WriterIn from (counted p) found (counted q)

@@ -156,8 +156,11 @@ enter_missed patience seen found done p q miss at went = enter_missed_so patienc
 pub marks_none : (patience : Patience) (seen : ℕ) (done : List (Slot ℕ)) (p : Parties ℕ) → (seen % 2 ≡ 0 → seen ≢ 2 ^ 64 - 2 → ⊥) → WriteGoes (marks_or_spins patience seen) done p → WriteGoes (spins patience) done p
 marks_none patience seen done p h1 h2 = grind (arith, nat_tests, eqb-true, eqb-false)
 
+pub comes_to_mark : (patience : Patience) (seen : ℕ) (done : List (Slot ℕ)) (p : Parties ℕ) → seen % 2 ≡ 0 → seen ≢ 2 ^ 64 - 2 → WriteGoes (marks_or_spins patience seen) done p → WriteGoes (After.At (RwWriterPlace.Mark seen (seen + 1) patience)) done p
+comes_to_mark patience seen done p h1 h2 h3 = grind (arith, nat_tests, eqb-true, eqb-false)
+
 pub may_mark : (patience : Patience) (seen put : ℕ) (done : List (Slot ℕ)) (p : Parties ℕ) → seen % 2 ≡ 0 → seen ≢ 2 ^ 64 - 2 → put ≡ seen + 1 → WriteGoes (marks_or_spins patience seen) done p → TableHas Going 0 (λ w. Intent.Exchange w seen put) p
-may_mark patience seen put done p h1 h2 h3 h4 = grind (arith, nat_tests, eqb-true, eqb-false, may_exchange)
+may_mark patience seen put done p even other is at = may_exchange Going Call.WriteLock (RwWriterPlace.Mark seen (seen + 1) patience) done p seen (seen + 1) put is refl (comes_to_mark patience seen done p even other at)
 
 pub marked : (patience : Patience) (seen found : ℕ) (done : List (Slot ℕ)) (p q : Parties ℕ) → seen % 2 ≡ 0 → seen ≢ 2 ^ 64 - 2 → found ≡ seen → WriteGoes (marks_or_spins patience seen) done p → TableLed Going p found q → WriteGoes (spins patience) done q
 marked patience seen found done p q h1 h2 h3 h4 h5 = grind (arith, nat_tests, eqb-true, eqb-false)
@@ -204,7 +207,7 @@ aborted count done p at = record { stood = RwWriterPlace.WriteLook (spun 10000);
 
 -- it gives up
 
-comes_to_unmark : (seen : ℕ) (done : List (Slot ℕ)) (p : Parties ℕ) → IsMarked seen → WriteGoes (unmarks_or_leaves seen) done p → WriteGoes (After.At (RwWriterPlace.Unmark seen (seen - 1))) done p
+pub comes_to_unmark : (seen : ℕ) (done : List (Slot ℕ)) (p : Parties ℕ) → IsMarked seen → WriteGoes (unmarks_or_leaves seen) done p → WriteGoes (After.At (RwWriterPlace.Unmark seen (seen - 1))) done p
 comes_to_unmark seen done p set at = when_true Call.WriteLock (is_marked seen) (After.At (RwWriterPlace.Unmark seen (seen - 1))) (After.Ends Answer.Interrupted) done p (marked_word seen set) at
 
 pub leaves : (seen : ℕ) (done : List (Slot ℕ)) (p : Parties ℕ) → ¬ IsMarked seen → WriteGoes (unmarks_or_leaves seen) done p → WriteGoes (After.Ends Answer.Interrupted) done p

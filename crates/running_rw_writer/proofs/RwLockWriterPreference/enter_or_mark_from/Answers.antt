@@ -37,29 +37,11 @@ set_mark-requires-clause-marked g c = (marks_some _ _ _ c.marks.ensures.«open»
 pub returns-in_default-clause-exact : goal.returns-in_default-clause-exact
 returns-in_default-clause-exact g c = λ none alone. let at = c.loop.invariant.exact none alone in c.in-Err.ensures.exact at.0 at.1
 
-pub loop-init : goal.loop-init
-loop-init g c = record { same_borrow = refl; tried = unchanged _ _ (refl, refl) refl; just = c.requires.just; exact = λ none alone. (none, alone); at = λ _ _ at. at }
-
-pub enter_if_free-requires-clause-own : goal.enter_if_free-requires-clause-own
-enter_if_free-requires-clause-own g c = c.loop.invariant.tried.same.0 ∙ c.requires.own
-
-pub enter_if_free-requires-clause-just : goal.enter_if_free-requires-clause-just
-enter_if_free-requires-clause-just g c = c.loop.invariant.just
-
 pub returns-in-Ok-clause-entered : goal.returns-in-Ok-clause-entered
 returns-in-Ok-clause-entered g c = entered_after 0 _ _ _ c.loop.invariant.tried c.in-Ok.ensures.entered
 
-pub returns-in-Ok-clause-exact : goal.returns-in-Ok-clause-exact
-returns-in-Ok-clause-exact g c = λ _ _. refl
-
 pub returns-in_default-clause-entered : goal.returns-in_default-clause-entered
 returns-in_default-clause-entered g c = tried_again 0 0 _ _ _ c.loop.invariant.tried c.in-Err.ensures.refused.0
-
-pub set_mark-requires-clause-own : goal.set_mark-requires-clause-own
-set_mark-requires-clause-own g c = c.in-Err.ensures.refused.0.same.0 ∙ c.loop.invariant.tried.same.0 ∙ c.requires.own
-
-pub set_mark-requires-clause-just : goal.set_mark-requires-clause-just
-set_mark-requires-clause-just g c = c.in-Err.ensures.refused.1
 
 pub set_mark-requires-clause-other : goal.set_mark-requires-clause-other
 set_mark-requires-clause-other g c = (marks_some _ _ _ c.marks.ensures.«open» c.marks.ensures.marked c.marks.ensures.full c.in-Some-marks.is).1

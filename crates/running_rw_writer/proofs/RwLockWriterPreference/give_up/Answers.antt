@@ -6,14 +6,8 @@ use Rattle.running_rw_writer.specs.RwWriterShown.{HasGivenUpWriting}
 use Rattle.running_rw_writer.proofs.RwWriterTries.{gave_up_still}
 use Rattle.running_rw_writer.proofs.RwLockWriterPreference.give_up.Goals as goal
 
-pub count_up-counted-requires-clause-own : goal.count_up-counted-requires-clause-own
-count_up-counted-requires-clause-own g c = c.take_mark_away-taken.ensures.gave_up.same.0 ∙ c.requires.own
-
 pub count_up-counted-requires-clause-at : goal.count_up-counted-requires-clause-at
 count_up-counted-requires-clause-at g c = let w = c.requires.at in (Leaver.GivenUp, record { call = Call.WriteLock; done = w.0; at = MatchBool-at_true _ _ c.if-taken.true (c.take_mark_away-taken.ensures.played w.0 w.1) })
-
-pub wake_both-requires-clause-own : goal.wake_both-requires-clause-own
-wake_both-requires-clause-own g c = c.count_up-counted.ensures.same.0 ∙ c.take_mark_away-taken.ensures.gave_up.same.0 ∙ c.requires.own
 
 pub wake_both-requires-clause-wakes : goal.wake_both-requires-clause-wakes
 wake_both-requires-clause-wakes g c = let w = c.requires.at in record {
@@ -26,9 +20,6 @@ wake_both-requires-clause-wakes g c = let w = c.requires.at in record {
   };
 }
 
-pub end-requires-clause-own : goal.end-requires-clause-own
-end-requires-clause-own g c = c.take_mark_away-taken.ensures.gave_up.same.0 ∙ c.requires.own
-
 pub end-requires-clause-over : goal.end-requires-clause-over
 end-requires-clause-over g c = let w = c.requires.at in is_over rw_writer_model Call.WriteLock Answer.Interrupted None w.0 _ (MatchBool-at_false _ _ c.if-taken.false (c.take_mark_away-taken.ensures.played w.0 w.1))
 
@@ -37,9 +28,6 @@ returns-then-taken-clause-gave_up g c = subst (λ (q : Pass PlayedRwWriter). Has
 
 pub returns-then-taken-clause-played : goal.returns-then-taken-clause-played
 returns-then-taken-clause-played g c = λ done at. inr (subst (λ (q : Pass PlayedRwWriter). WriteGoes (After.At (RwWriterPlace.WakeOne Leaver.GivenUp)) done (parties_of q)) (sym c.wake_both.ensures.still) (c.count_up-counted.ensures.counted Call.WriteLock Leaver.GivenUp done (MatchBool-at_true _ _ c.if-taken.true (c.take_mark_away-taken.ensures.played done at))))
-
-pub returns-then-taken-clause-woke : goal.returns-then-taken-clause-woke
-returns-then-taken-clause-woke g c = λ _. c.wake_both.ensures.woke
 
 pub returns-clause-gave_up : goal.returns-clause-gave_up
 returns-clause-gave_up g c = subst (λ (q : Pass PlayedRwWriter). HasGivenUpWriting 0 c.args.turn.pass.now q) (sym c.end.ensures.still) c.take_mark_away-taken.ensures.gave_up

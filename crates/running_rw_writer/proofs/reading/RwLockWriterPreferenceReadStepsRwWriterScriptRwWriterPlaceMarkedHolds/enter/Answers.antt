@@ -1,4 +1,4 @@
-use Rattle.running_rw_writer.proofs.RwWriterKeeps.{reads, enters, exchanges_alone}
+use Rattle.running_rw_writer.proofs.RwWriterKeeps.{made_read, exchanges, enters, exchanges_alone}
 use Rattle.running_rw_writer.proofs.RwWriterPlays.{may_read, read_once, read_goes}
 use Rattle.running_rw_writer.proofs.reading.RwLockWriterPreferenceReadStepsRwWriterScriptRwWriterPlaceMarkedHolds.enter.Goals as goal
 
@@ -10,7 +10,7 @@ returns-clause-tried g c =
     let p = c.args.turn.pass.now in
     let q = c.exchange.result.1.pass.now in
     let may = may_read _ _ _ c.requires.room.0 c.requires.room.1 c.requires.may in
-    let made = reads _ _ _ _ p q may c.exchange.ensures.told c.requires.room.1 in record {
+    let made = made_read _ _ _ _ _ _ c.requires.room.1 (exchanges _ _ _ _ p q may c.exchange.ensures.told) in record {
       done = λ hit. (c.exchange.ensures.same, made.0 hit);
       moved = enters _ _ _ _ p q may c.exchange.ensures.told c.exchange.ensures.beside c.requires.room.0 c.requires.room.1 c.exchange.ensures.alone;
       failed = λ miss. (c.exchange.ensures.same, made.1 miss);
