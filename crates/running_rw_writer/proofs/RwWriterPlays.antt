@@ -93,21 +93,13 @@ pub may_read : (seen more : ℕ) (p : Parties ℕ) → IsOpen seen → more ≡ 
 may_read seen more p room is (inl at) = may_exchange Going Call.TryReadLock (RwWriterPlace.TryRead seen (seen + 2)) at.0 p seen (seen + 2) more is refl (comes_once seen at.0 p room at.1)
 may_read seen more p room is (inr at) = may_exchange Going Call.ReadLock (RwWriterPlace.Read seen (seen + 2) at.0) at.1 p seen (seen + 2) more is refl (comes_to_read at.0 seen at.1 p room at.2)
 
-once_so : (seen found : ℕ) (b : Bool) (done : List (Slot ℕ)) (q : Parties ℕ) → (found == seen) ≡ b → Led rw_writer_model Call.TryReadLock (RwWriterPlace.TryRead seen (seen + 2)) None found done q →
-    MatchBool b (Ended Call.TryReadLock Answer.Success (Some HoldKind.Read) done q) (Ended Call.TryReadLock Answer.Interrupted None done q)
-once_so seen found b done q h1 h2 = grind (arith, nat_tests, eqb-true, eqb-false)
-
 pub read_once : (seen found : ℕ) (done : List (Slot ℕ)) (p q : Parties ℕ) → IsOpen seen → CallGoes Call.TryReadLock (try_read_look seen) done p → TableLed Going p found q →
     MatchBool (found == seen) (Ended Call.TryReadLock Answer.Success (Some HoldKind.Read) done q) (Ended Call.TryReadLock Answer.Interrupted None done q)
-read_once seen found done p q room at went = once_so seen found (found == seen) done q refl (went Call.TryReadLock (RwWriterPlace.TryRead seen (seen + 2)) None done (comes_once seen done p room at))
-
-read_so : (patience : Patience) (seen found : ℕ) (b : Bool) (done : List (Slot ℕ)) (q : Parties ℕ) → (found == seen) ≡ b → Led rw_writer_model Call.ReadLock (RwWriterPlace.Read seen (seen + 2) patience) None found done q →
-    MatchBool b (IsGranted rw_writer_model Call.ReadLock RwWriterPlace.ReadLook (Some HoldKind.Read) done q) (CallGoes Call.ReadLock (read_look patience found) done q)
-read_so patience seen found b done q h1 h2 = grind (arith, nat_tests, eqb-true, eqb-false)
+read_once seen found done p q h1 h2 h3 = grind (arith, nat_tests, eqb-true, eqb-false, comes_once)
 
 pub read_goes : (patience : Patience) (seen found : ℕ) (done : List (Slot ℕ)) (p q : Parties ℕ) → IsOpen seen → CallGoes Call.ReadLock (read_look patience seen) done p → TableLed Going p found q →
     MatchBool (found == seen) (IsGranted rw_writer_model Call.ReadLock RwWriterPlace.ReadLook (Some HoldKind.Read) done q) (CallGoes Call.ReadLock (read_look patience found) done q)
-read_goes patience seen found done p q room at went = read_so patience seen found (found == seen) done q refl (went Call.ReadLock (RwWriterPlace.Read seen (seen + 2) patience) None done (comes_to_read patience seen done p room at))
+read_goes patience seen found done p q h1 h2 h3 = grind (arith, nat_tests, eqb-true, eqb-false, comes_to_read)
 
 -- a writer that tries once
 

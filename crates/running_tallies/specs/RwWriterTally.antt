@@ -25,14 +25,10 @@ same_marked t u a b c d e f held flags reads writes = λ i. marked (held i) (fla
 
 pub marked_add_up : IsTally nothing_marked both_marked (λ _. nothing_marked)
 marked_add_up = let holds = held_adds_up same_nothing tells_same_nothing in record {
-  unit = λ t. same_marked (both_holds no_holds t.held) t.held (0 + t.flags) t.flags (0 + t.read_grants) t.read_grants (0 + t.write_grants) t.write_grants refl (omega arith) (omega arith) (omega arith);
-  swap = λ t u. same_marked (both_holds t.held u.held) (both_holds u.held t.held) (t.flags + u.flags) (u.flags + t.flags)
-      (t.read_grants + u.read_grants) (u.read_grants + t.read_grants) (t.write_grants + u.write_grants) (u.write_grants + t.write_grants)
-      (holds.swap t.held u.held) (omega arith) (omega arith) (omega arith);
-  group = λ t u v. same_marked (both_holds (both_holds t.held u.held) v.held) (both_holds t.held (both_holds u.held v.held)) (t.flags + u.flags + v.flags) (t.flags + (u.flags + v.flags))
-      (t.read_grants + u.read_grants + v.read_grants) (t.read_grants + (u.read_grants + v.read_grants)) (t.write_grants + u.write_grants + v.write_grants) (t.write_grants + (u.write_grants + v.write_grants))
-      (holds.group t.held u.held v.held) (omega arith) (omega arith) (omega arith);
-  copy = λ t. same_marked (both_holds no_holds t.held) t.held (0 + t.flags) t.flags (0 + t.read_grants) t.read_grants (0 + t.write_grants) t.write_grants refl (omega arith) (omega arith) (omega arith);
+  unit = λ t. same_marked _ t.held _ t.flags _ t.read_grants _ t.write_grants refl (omega arith) (omega arith) (omega arith);
+  swap = λ t u. same_marked _ _ _ _ _ _ _ _ (holds.swap t.held u.held) (omega arith) (omega arith) (omega arith);
+  group = λ t u v. same_marked _ _ _ _ _ _ _ _ (holds.group t.held u.held v.held) (omega arith) (omega arith) (omega arith);
+  copy = λ t. same_marked _ t.held _ t.flags _ t.read_grants _ t.write_grants refl (omega arith) (omega arith) (omega arith);
 }
 
 quiet_mark : (past : List (Event ℕ)) (e : Event ℕ) → IsOnNoWord e.act → is_marked_after (e ∷ past) ≡ is_marked_after past
@@ -52,32 +48,7 @@ marks_open = record { holds = record { reads = refl; writes = refl }; flagged = 
 -- The word counts the holds of the run and the mark, and so those of the passes.
 
 held_so : (w : ℕ) (hs : List Hold) (set : Bool) (t : MarkedHolds) → CountsHolds w hs set → read_holds t.held ≡ reads_in hs → write_holds t.held ≡ writes_in hs → (set ≡ true → 0 < t.flags) → IsMarkedOrHeld w t
-held_so w hs true t (inl run) reads writes up = record {
-  mark = 1;
-  word_is = omega (arith, run.counts, run.unwritten, reads, writes);
-  one_mark = omega (arith, run.unwritten, writes);
-  flagged = omega (arith, up refl);
-  room = omega (arith, run.fits, reads);
-  knows = knows_nothing t.held (λ one also. absurd (omega (arith, also, run.unwritten, writes)));
-}
-held_so w hs false t (inl run) reads writes up = record {
-  mark = 0;
-  word_is = omega (arith, run.counts, run.unwritten, reads, writes);
-  one_mark = omega (arith, run.unwritten, writes);
-  flagged = omega arith;
-  room = omega (arith, run.fits, reads);
-  knows = knows_nothing t.held (λ one also. absurd (omega (arith, also, run.unwritten, writes)));
-}
-held_so w hs set t (inr run) reads writes up =
-    let none = ap reads_in run.alone in
-    let one = ap writes_in run.alone in record {
-      mark = 0;
-      word_is = omega (arith, run.is_full, reads, writes, none, one);
-      one_mark = omega (arith, writes, one);
-      flagged = omega arith;
-      room = omega (arith, reads, none);
-      knows = knows_nothing t.held (λ some also. absurd (omega (arith, some, reads, none)));
-    }
+held_so w hs set t h1 h2 h3 h4 = grind (arith, nat_tests, eqb-true, eqb-false)
 
 -- of a run that keeps the lock's law
 pub held_in : (past : List (Event ℕ)) (t : MarkedHolds) → KeepsRwWriter past → AreMarkedIn past t → IsMarkedOrHeld (word_in rw_writer_table past Word.State) t
@@ -127,10 +98,9 @@ goes (Intent.Load Word.State) c hold Call.WriteLock memory t rest may is has = s
 goes other c hold call memory t rest may is has = is
 
 -- and grants are counted as they are made
-grants_more : (intent : Intent ℕ) (c : PendingCall ℕ) (hold : Option HoldKind) (call : Call ℕ) (memory : Word → ℕ) (t : MarkedHolds) → IsWriterIntent c.call hold intent →
-    ((marked_after (carried_out intent memory) call t).read_grants ≡ grants_by rw_writer_table HoldKind.Read (carried_out intent memory) (Some c) + t.read_grants)
-    × ((marked_after (carried_out intent memory) call t).write_grants ≡ grants_by rw_writer_table HoldKind.Write (carried_out intent memory) (Some c) + t.write_grants)
-grants_more intent c hold call memory t h1 = grind (arith, nat_tests, eqb-true, eqb-false)
+grants_more : (intent : Intent ℕ) (c : PendingCall ℕ) (hold : Option HoldKind) (call : Call ℕ) (memory : Word → ℕ) (t : MarkedHolds) (act : Act ℕ) (k : Option (PendingCall ℕ)) → IsWriterIntent c.call hold intent → act ≡ carried_out intent memory → k ≡ Some c →
+    ((marked_after act call t).read_grants ≡ grants_by rw_writer_table HoldKind.Read act k + t.read_grants) × ((marked_after act call t).write_grants ≡ grants_by rw_writer_table HoldKind.Write act k + t.write_grants)
+grants_more intent c hold call memory t act k h1 h2 h3 = grind (arith, nat_tests, eqb-true, eqb-false)
 
 pub marks_go_on : GoesOnByActs rw_writer_model both_marked AreMarkedIn marked_after marked_needed
 marks_go_on call place hold past e found step t rest has is =
@@ -140,9 +110,7 @@ marks_go_on call place hold past e found step t rest has is =
     let at = subst (λ h. IsWriterIntent step.pending.call h (rw_writer_table.intent place h)) step.has (writer_intent place step.pending (hold_of rw_writer_table e.party past) (here u64_arithmetic step.parties past step.run.1 e.party step.pending place step.under_way step.stage)) in
     let left = subst (λ (a : Act ℕ). MarkedAfter a call (memory Word.State) t rest) (sym act) (goes intent step.pending hold call memory t rest at (held_in past (both_marked t rest) step.law is) (subst (λ (a : Act ℕ). marked_needed a t) act has)) in
     let both = counted_so (word_in rw_writer_table (e ∷ past) Word.State) (holds_of rw_writer_table (e ∷ past)) (is_marked_after (e ∷ past)) (both_marked (marked_after e.act call t) rest) (rw_writer_lawful step.parties (e ∷ past) step.run).law.counts left in
-    let more = subst (λ (k : Option (PendingCall ℕ)). ((marked_after e.act call t).read_grants ≡ grants_by rw_writer_table HoldKind.Read e.act k + t.read_grants) × ((marked_after e.act call t).write_grants ≡ grants_by rw_writer_table HoldKind.Write e.act k + t.write_grants)) (sym step.under_way)
-    (subst (λ (a : Act ℕ). ((marked_after a call t).read_grants ≡ grants_by rw_writer_table HoldKind.Read a (Some step.pending) + t.read_grants) × ((marked_after a call t).write_grants ≡ grants_by rw_writer_table HoldKind.Write a (Some step.pending) + t.write_grants)) (sym act)
-    (grants_more intent step.pending hold call memory t at)) in
+    let more = grants_more intent step.pending hold call memory t e.act (call_of e.party past) at act step.under_way in
     record {
       holds = record { reads = both.0; writes = both.1 };
       flagged = both.2;
