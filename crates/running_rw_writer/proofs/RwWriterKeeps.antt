@@ -85,8 +85,8 @@ pub made_unmark : (call : Call ℕ) (from to found : ℕ) (v w : View MarkedHold
 made_unmark call from to found v w h1 h2 h3 = grind (arith, nat_tests, eqb-true, eqb-false)
 
 -- beside others a reader comes in where no writer is
-reads_so : (w : ℕ) (t rest : MarkedHolds) → IsMarkedOrHeld w (both_marked t rest) → IsOpen w → (read_holds (read t).held ≡ read_holds t.held + 1) × (write_holds t.held ≡ 0) × (write_holds (read t).held ≡ 0)
-reads_so w t rest h1 h2 = grind (arith, nat_tests, eqb-true, eqb-false)
+enters_so : (v : View MarkedHolds) (from found : ℕ) (rest : MarkedHolds) → IsOpen from → found ≡ from → IsMarkedOrHeld found (both_marked v.tally rest) → SaysAlone v found → EntersToRead v.part v.tally (read v.tally) from
+enters_so v from found rest h1 h2 h3 h4 = grind (arith, nat_tests, eqb-true, eqb-false)
 
 -- and a writer where nobody is
 writes_so : (w : ℕ) (t rest : MarkedHolds) → IsMarkedOrHeld w (both_marked t rest) → w < 2 → t.held ≡ no_holds
@@ -107,55 +107,31 @@ module _ (way : Coming ℕ) (from to found : ℕ) (p q : Pass PlayedRwWriter) (m
         record { done = λ hit. (writes_so found (counts_of p) all.0 all.1 (omega (arith, hit, free)), made.0 hit); failed = made.1; alone = exchanges_alone alone }
 
     -- a read hold is turned on from the value found
-    pub enters : IsOpen from → to ≡ from + 2 → Alone way found p → found ≡ from → EntersToRead (part_of p) (counts_of p) (read (counts_of p)) from
-    enters room more alone hit =
+    pub enters : IsOpen from → Alone way found p → found ≡ from → EntersToRead (part_of p) (counts_of p) (read (counts_of p)) from
+    enters room alone hit =
         let all = found_beside way (λ k. Intent.Exchange k from to) found p may (λ w memory. refl) share in
-        let so = reads_so from (counts_of p) all.0 (subst (λ n. IsMarkedOrHeld n (both_marked (counts_of p) all.0)) hit all.1) room in
-        record {
-          reads = so.0;
-          writes = (so.1, so.2);
-          flags = refl;
-          grants = (refl, refl);
-          enters = room;
-          alone = λ only. let is = exchanges_alone alone only in omega (arith, is, hit, so.1);
-        }
+        enters_so (counted p) from found all.0 room hit all.1 (exchanges_alone alone)
 
 -- a subtraction of 2, by a pass with a read hold
 
-leaves_so : (w : ℕ) (t rest : MarkedHolds) → IsMarkedOrHeld w (both_marked t rest) → 0 < read_holds t.held →
-    (read_holds (no_more_read t).held + 1 ≡ read_holds t.held) × ((write_holds t.held ≡ 0) × (write_holds (no_more_read t).held ≡ 0)) × ((2 ≤ w) × (w < 2 ^ 64 - 1))
-leaves_so w t rest h1 h2 = grind (arith, nat_tests, eqb-true, eqb-false)
+leaves_so : (p q : Pass PlayedRwWriter) (found : ℕ) (rest : MarkedHolds) → IsSamePass p q → IsMarkedOrHeld found (both_marked (counts_of p) rest) → 0 < reads_of p → counted q ≡ wrote (looked (counted p) found) (no_more_read (counts_of p)) →
+    HasLeftReading p q × ((sights_of q).last ≡ found)
+leaves_so p q found rest h1 h2 h3 h4 = grind (arith, nat_tests, eqb-true, eqb-false)
 
 pub readers_out : (way : Coming ℕ) (found : ℕ) (p q : Pass PlayedRwWriter) → TableHas way 0 (λ k. Intent.Subtract k 2) (parties_of p) → IsSamePass p q → Share way found p → ToldOf way found p q → 0 < reads_of p →
     HasLeftReading p q × ((sights_of q).last ≡ found)
 readers_out way found p q may same share told some =
     let all = found_beside way (λ k. Intent.Subtract k 2) found p may (λ w memory. refl) share in
-    let so = leaves_so found (counts_of p) all.0 all.1 some in
-    let done = told_so _ _ _ _ (λ k. Intent.Subtract k 2) (parties_of p) may Word.State may.named found marked_sees marked_after (counted p) (counted q) told in
-    let now = ap (λ (v : View MarkedHolds). v.tally) done in
-    let last = ap (λ (v : View MarkedHolds). v.sights.last) done in (
-      record {
-        same = same;
-        reads = ap (λ (t : MarkedHolds). read_holds t.held + 1) now ∙ so.0;
-        writes = (so.1.0, ap (λ (t : MarkedHolds). write_holds t.held) now ∙ so.1.1);
-        done = done ∙ ap (λ n. wrote (looked (counted p) n) (no_more_read (counts_of p))) (sym last);
-        saw = subst (λ n. (2 ≤ n) × (n < 2 ^ 64 - 1)) (sym last) so.2;
-      },
-      last,
-    )
+    leaves_so p q found all.0 same all.1 some (told_so _ _ _ _ (λ k. Intent.Subtract k 2) (parties_of p) may Word.State may.named found marked_sees marked_after (counted p) (counted q) told)
 
 -- a store of 0, by the pass with the write hold
+stores_so : (p q : Pass PlayedRwWriter) (w : ℕ) (rest : MarkedHolds) → IsSamePass p q → IsMarkedOrHeld w (both_marked (counts_of p) rest) → writes_of p ≡ 1 → counted q ≡ wrote (counted p) (no_more_written (counts_of p)) → HasLeftWriting p q
+stores_so p q w rest h1 h2 h3 h4 = grind (arith, nat_tests, eqb-true, eqb-false)
+
 pub writers_out : (way : Coming ℕ) (p q : Pass PlayedRwWriter) → TableHas way 0 (λ k. Intent.Store k 0) (parties_of p) → IsSamePass p q → Share way 0 p → ToldOf way 0 p q → writes_of p ≡ 1 → HasLeftWriting p q
 writers_out way p q may same share told on =
     let all = beside way (λ k. Intent.Store k 0) 0 p may share in
-    let done = told_so _ _ _ _ (λ k. Intent.Store k 0) (parties_of p) may Word.State may.named 0 marked_sees marked_after (counted p) (counted q) told in
-    let now = ap (λ (v : View MarkedHolds). v.tally) done in
-    record {
-      same = same;
-      on = (only_writes tt (counts_of p).held (parts same_nothing tells_same_nothing tt (counts_of p).held all.0.held all.2.knows).first on, on);
-      off = (ap (λ (t : MarkedHolds). read_holds t.held) now, ap (λ (t : MarkedHolds). write_holds t.held) now);
-      done = done;
-    }
+    stores_so p q all.1 all.0 same all.2 on (told_so _ _ _ _ (λ k. Intent.Store k 0) (parties_of p) may Word.State may.named 0 marked_sees marked_after (counted p) (counted q) told)
 
 -- Whenever the rule holds.
 

@@ -18,33 +18,16 @@ Ended call answer hold done p = HasEnded rw_writer_model call answer hold done p
 
 -- what the tests of the table say
 
-lt_true : (m n : ℕ) → m < n → nat_lt m n ≡ true
-lt_true m n below = grind (arith, nat_tests)
-
 hit : (m n : ℕ) → m ≡ n → (m == n) ≡ true
 hit m n is = subst (λ k. (k == n) ≡ true) (sym is) (eqb_same n)
-
-marked_word : (w : ℕ) → IsMarked w → is_marked w ≡ true
-marked_word w set = rw (set.odd, ne_eqb w (2 ^ 64 - 1) set.unwritten) refl
 
 pub unmarked_word : (w : ℕ) → ¬ IsMarked w → is_marked w ≡ false
 unmarked_word w h1 = grind (arith, nat_tests, eqb-true, eqb-false)
 
--- an exchange of a `WriteLock` from 0 or 1 takes the write hold; one up or down takes none
+-- an exchange of a `WriteLock` from 0 or 1 takes the write hold
 
 enters : (seen : ℕ) → seen < 2 → rw_writer_grant {T = ℕ} Call.WriteLock seen (2 ^ 64 - 1) ≡ Some HoldKind.Write
 enters seen free = grind (arith, nat_tests)
-
-marks : (seen : ℕ) → rw_writer_grant {T = ℕ} Call.WriteLock seen (seen + 1) ≡ None
-marks seen = rw (is_marking seen (seen + 1) refl) refl
-
--- how a call goes on by a test
-
-when_true : (call : Call ℕ) (b : Bool) (one other : After ℕ RwWriterPlace) (done : List (Slot ℕ)) (p : Parties ℕ) → b ≡ true → CallGoes call (cond b one other) done p → CallGoes call one done p
-when_true call b one other done p is at = subst (λ (c : Bool). CallGoes call (cond c one other) done p) is at
-
-when_false : (call : Call ℕ) (b : Bool) (one other : After ℕ RwWriterPlace) (done : List (Slot ℕ)) (p : Parties ℕ) → b ≡ false → CallGoes call (cond b one other) done p → CallGoes call other done p
-when_false call b one other done p is at = subst (λ (c : Bool). CallGoes call (cond c one other) done p) is at
 
 -- the steps that the table has
 
@@ -164,19 +147,19 @@ mark_missed patience seen found done p q h1 h2 h3 h4 h5 = grind (arith, nat_test
 -- it spins, and then loads the counter and looks a last time
 
 pub spins_on : (n : ℕ) (done : List (Slot ℕ)) (p : Parties ℕ) → n < 10000 → WriteGoes (spins (spun n)) done p → ComesToWrite Going (spun (n + 1)) done p
-spins_on n done p below at = when_true Call.WriteLock (nat_lt n 10000) (After.At (RwWriterPlace.WriteLook (spun (n + 1)))) (After.At (RwWriterPlace.LoadCounter (spun n))) done p (lt_true n 10000 below) at
+spins_on n done p h1 h2 = grind (arith, nat_tests, eqb-true, eqb-false)
 
 pub all_spun : (n : ℕ) (done : List (Slot ℕ)) (p : Parties ℕ) → n ≡ 10000 → WriteGoes (spins (spun n)) done p → WriteGoes (After.At (RwWriterPlace.LoadCounter (spun 10000))) done p
-all_spun n done p all at = subst (λ (k : ℕ). WriteGoes (spins (spun k)) done p) all at
+all_spun n done p h1 h2 = grind (arith, nat_tests, eqb-true, eqb-false)
 
 pub looked_last : (count found : ℕ) (p q : Parties ℕ) → TableLed Going p found q → (patience : Patience) → GoesFromTo Call.WriteLock (After.At (RwWriterPlace.LastLook count patience)) (last_look count patience found) p q
 looked_last count found p q went patience = λ done at. went Call.WriteLock (RwWriterPlace.LastLook count patience) None done at
 
 pub stands : (count seen : ℕ) (patience : Patience) (done : List (Slot ℕ)) (p : Parties ℕ) → is_blocked seen ≡ true → WriteGoes (last_look count patience seen) done p → WriteGoes (After.Waits (RwWriterPlace.WriteLook patience) count) done p
-stands count seen patience done p blocked at = when_true Call.WriteLock (is_blocked seen) (After.Waits (RwWriterPlace.WriteLook patience) count) (write_look patience seen) done p blocked at
+stands count seen patience done p h1 h2 = grind (arith, nat_tests, eqb-true, eqb-false)
 
 pub goes_on : (count seen : ℕ) (patience : Patience) (done : List (Slot ℕ)) (p : Parties ℕ) → is_blocked seen ≡ false → WriteGoes (last_look count patience seen) done p → WriteGoes (write_look patience seen) done p
-goes_on count seen patience done p free at = when_false Call.WriteLock (is_blocked seen) (After.Waits (RwWriterPlace.WriteLook patience) count) (write_look patience seen) done p free at
+goes_on count seen patience done p h1 h2 = grind (arith, nat_tests, eqb-true, eqb-false)
 
 -- its closure is asked, with the counter
 
@@ -200,7 +183,7 @@ aborted count done p at = record { stood = RwWriterPlace.WriteLook (spun 10000);
 -- it gives up
 
 pub comes_to_unmark : (seen : ℕ) (done : List (Slot ℕ)) (p : Parties ℕ) → IsMarked seen → WriteGoes (unmarks_or_leaves seen) done p → WriteGoes (After.At (RwWriterPlace.Unmark seen (seen - 1))) done p
-comes_to_unmark seen done p set at = when_true Call.WriteLock (is_marked seen) (After.At (RwWriterPlace.Unmark seen (seen - 1))) (After.Ends Answer.Interrupted) done p (marked_word seen set) at
+comes_to_unmark seen done p h1 h2 = grind (arith, nat_tests, eqb-true, eqb-false)
 
 pub leaves : (seen : ℕ) (done : List (Slot ℕ)) (p : Parties ℕ) → ¬ IsMarked seen → WriteGoes (unmarks_or_leaves seen) done p → WriteGoes (After.Ends Answer.Interrupted) done p
 leaves seen done p h1 h2 = grind (arith, nat_tests, eqb-true, eqb-false)
@@ -269,7 +252,7 @@ pub unlocking : (kind : HoldKind) (after : After ℕ RwWriterPlace) (p q : Parti
 unlocking kind after p q has goes = record { call = Call.Unlock; done = p.resting; at = goes p.resting (holding_told rw_writer_model kind p has) }
 
 pub last_reader : (found : ℕ) (p q : Parties ℕ) → found ≡ 3 → Unlocks HoldKind.Read (released (Some found)) p q → Unlocks HoldKind.Read (After.At (RwWriterPlace.Count Leaver.Reader)) p q
-last_reader found p q is goes = λ done holding. when_true Call.Unlock (found == 3) (After.At (RwWriterPlace.Count Leaver.Reader)) (After.Ends Answer.Done) done q (hit found 3 is) (goes done holding)
+last_reader found p q is goes = λ done holding. subst (λ n. CallGoes Call.Unlock (released (Some n)) done q) is (goes done holding)
 
 wakes_so : (found : ℕ) (done : List (Slot ℕ)) (q : Parties ℕ) → (found == 3) ≡ true → CallGoes Call.Unlock (After.At (RwWriterPlace.WakeOne Leaver.Reader)) done q → CallGoes Call.Unlock (unlocked HoldKind.Read found) done q
 wakes_so found done q test at = rw test at
@@ -281,7 +264,7 @@ wakes_writer found last p q r is saw goes on = λ done holding. wakes_so last do
 -- another reader is answered
 
 ends_reading : (found : ℕ) (done : List (Slot ℕ)) (q : Parties ℕ) → found ≢ 3 → CallGoes Call.Unlock (released (Some found)) done q → CallGoes Call.Unlock (After.Ends Answer.Done) done q
-ends_reading found done q other at = when_false Call.Unlock (found == 3) (After.At (RwWriterPlace.Count Leaver.Reader)) (After.Ends Answer.Done) done q (ne_eqb found 3 other) at
+ends_reading found done q h1 h2 = grind (arith, nat_tests, eqb-true, eqb-false)
 
 pub other_is_over : (found : ℕ) (p q : Parties ℕ) → found ≢ 3 → has_hold HoldKind.Read p ≡ true → Unlocks HoldKind.Read (released (Some found)) p q → IsOver rw_writer_model q
 other_is_over found p q other has goes = is_over rw_writer_model Call.Unlock Answer.Done None p.resting q (ends_reading found p.resting q other (goes p.resting (holding_told rw_writer_model HoldKind.Read p has)))

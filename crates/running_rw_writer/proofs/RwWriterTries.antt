@@ -27,30 +27,11 @@ unmarks_none seen answer h1 h2 = grind (arith, nat_tests, eqb-true, eqb-false)
 -- a writer has seen this
 pub sees_it : (p q : Pass PlayedRwWriter) (found : ℕ) (saw : Sights) → saw.count ≡ (sights_of p).count + 1 → saw.last ≡ found → saw.fresh ≡ true → IsSamePass p q → IsSeenByWriter (counted p) found saw (counted q) →
     HasTried 1 p q × HasJustSeen found q
-sees_it p q found saw more last fresh same sees =
-    let sights = ap (λ (v : View MarkedHolds). v.sights) sees in
-    let tally = ap (λ (v : View MarkedHolds). v.tally) sees in
-    let count = ap (λ (s : Sights). s.count) sights in (
-      record { same = same; part = ap (λ (v : View MarkedHolds). v.part) sees; tally = tally ∙ by_flags (has_mark found) (counts_of p) (counts_of q) tally; more = omega (arith, count, more) },
-      record {
-        last = ap (λ (s : Sights). s.last) sights ∙ last;
-        fresh = ap (λ (s : Sights). s.fresh) sights ∙ fresh;
-        down = λ unset. ap (λ (t : MarkedHolds). t.flags) tally ∙ ap (λ (b : Bool). (cond b (counts_of p) (flagged 0 (counts_of p))).flags) (unmarked_word found unset);
-      },
-    )
-  where
-    by_flags : (b : Bool) (t u : MarkedHolds) → u ≡ cond b t (flagged 0 t) → cond b t (flagged 0 t) ≡ flagged u.flags t
-    by_flags true t u is = ap (λ (k : MarkedHolds). flagged k.flags t) (sym is)
-    by_flags false t u is = ap (λ (k : MarkedHolds). flagged k.flags t) (sym is)
+sees_it p q found saw h1 h2 h3 h4 h5 = grind (arith, nat_tests, eqb-true, eqb-false)
 
 -- an exchange from the value that a writer had just seen found another
 pub missed_it : (p q : Pass PlayedRwWriter) (seen found : ℕ) → IsSamePass p q → HasJustSeen seen p → Missed seen (counted p) found (counted q) → HasMissedIt found p q
-missed_it p q seen found same just sees =
-    let saw = sees_it p q found (seen_instead (sights_of p) seen found) refl refl refl same sees in
-    record { tried = saw.0; just = saw.1; missed = ap (λ (v : View MarkedHolds). v.sights.missed) sees ∙ both_true ((sights_of p).fresh) ((sights_of p).last) seen just.fresh just.last }
-  where
-    both_true : (fresh : Bool) (last from : ℕ) → fresh ≡ true → last ≡ from → (fresh && (last == from)) ≡ true
-    both_true fresh last from one is = rw (one, is, eqb_same from) refl
+missed_it p q seen found h1 h2 h3 = grind (arith, nat_tests, eqb-true, eqb-false)
 
 -- its exchange put the flag up, or down
 pub set_it : (p q : Pass PlayedRwWriter) (n : ℕ) → IsSamePass p q → counted q ≡ wrote (counted p) (flagged n (counts_of p)) → HasTried 0 p q
