@@ -13,11 +13,12 @@ mod poison;
 mod rule;
 mod script;
 mod shares;
+pub mod slot;
 mod spin_lock;
 
 pub use guard::SpinLockGuard;
 pub use pass::SpinPass;
 pub use poison::{LockResult, PoisonError};
-pub use rule::ValueRule;
+pub use rule::{HeldValue, ValueRule};
 pub use script::{PlayedSpin, SpinScript};
 pub use spin_lock::{SpinLock, grants_are_of_a_run, one_holder_at_most};
