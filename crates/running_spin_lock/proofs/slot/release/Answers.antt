@@ -8,7 +8,7 @@ store-requires-clause-may g c = let me = ap (λ s. s.me) c.begin_held-begun.ensu
     subst (λ v. MayStep (g.M.Script.model tt) g.M.Script.names (Continuing g.L.Called.call) 0 (λ w. Intent.Store w 0) v.tally.parties) (sym (ap (λ m. m.0) me)) c.requires.may
 
 pub store-requires-clause-needs : goal.store-requires-clause-needs
-store-requires-clause-needs g c = let me = ap (λ s. s.me) c.begin_held-begun.ensures.still ∙ c.exchange.ensures.3 in λ name found. ap (λ m. m.0.tally.counts.holds) me ∙ c.requires.on
+store-requires-clause-needs g c = let me = ap (λ s. s.me) c.begin_held-begun.ensures.still ∙ c.exchange.ensures.3 in λ name found named. ap (λ m. m.0.tally.counts.holds) me ∙ c.requires.on
 
 pub store-requires-clause-carries : goal.store-requires-clause-carries
 store-requires-clause-carries g c = let me = ap (λ s. s.me) c.begin_held-begun.ensures.still ∙ c.exchange.ensures.3 in

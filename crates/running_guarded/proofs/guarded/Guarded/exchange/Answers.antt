@@ -3,7 +3,7 @@ use Rattle.running_guarded.proofs.Names.{zero_or_not, tried, tried_alone, exchan
 use Rattle.running_guarded.proofs.guarded.Guarded.exchange.Goals as goal
 
 pub exchange-found-requires-clause-needs : goal.exchange-found-requires-clause-needs
-exchange-found-requires-clause-needs g c = λ name found. tt
+exchange-found-requires-clause-needs g c = λ name found named. tt
 
 pub exchange-found-requires-clause-carries : goal.exchange-found-requires-clause-carries
 exchange-found-requires-clause-carries g c = carries_none _ _ c.requires.off c.requires.no_slot

@@ -7,7 +7,7 @@ use Rattle.running_spin_lock.proofs.ValueKeeps.{carries_none, value_tried}
 use Rattle.running_spin_lock.proofs.spin_lock.SpinLock.swap.Goals as goal
 
 pub swap-found-requires-clause-needs : goal.swap-found-requires-clause-needs
-swap-found-requires-clause-needs g c = λ name found. tt
+swap-found-requires-clause-needs g c = λ name found named. tt
 
 pub swap-found-requires-clause-carries : goal.swap-found-requires-clause-carries
 swap-found-requires-clause-carries g c = carries_none _ _ c.requires.off c.requires.no_slot
