@@ -4,7 +4,7 @@ use Rattle.running_rw_writer.proofs.Names.{◌≡◌, ◌≢◌, ℕ, ◌+◌, �
 use Rattle.std.proofs.lemmas.Bool.{eqb-true, eqb-false}
 use Rattle.std.proofs.lemmas.Bool.Decides.{nat_tests}
 use Rattle.model_rw_writer.specs.Law.{has_mark}
-use Rattle.running_rw_writer.specs.RwWriterShown.{flags_of, HasTried, HasJustSeen, HasMissedIt, MayGiveUp, HasGivenUpWriting, HasEnteredSeenFree}
+use Rattle.running_rw_writer.specs.RwWriterShown.{IsAloneWithin, HasTried, HasJustSeen, HasMissedIt, MayGiveUp, HasGivenUpWriting, HasEnteredSeenFree}
 use Rattle.running_rw_writer.specs.RwWriterSteps.{PlayedRwWriter, IsMarked, IsSeenByWriter, Missed, WriterIn}
 use Rattle.running_rw_writer.proofs.RwWriterPlays.{unmarked_word}
 
@@ -69,7 +69,13 @@ gave_up_after m n p q r h1 h2 = grind (arith, nat_tests, eqb-true, eqb-false)
 pub gave_up_still : (n : ℕ) (p q r : Pass PlayedRwWriter) → HasGivenUpWriting n p q → IsSamePass q r → counted r ≡ counted q → HasGivenUpWriting n p r
 gave_up_still n p q r h1 h2 h3 = grind (arith, nat_tests, eqb-true, eqb-false)
 
--- so a whole try ends, whichever way
+-- so a whole try ends, whichever way; or it has not ended
 pub ends_after : (m n : ℕ) (p q r : Pass PlayedRwWriter) (entered : Bool) → HasTried m p q → MatchBool entered (HasEnteredSeenFree q r) (HasGivenUpWriting n q r) → MatchBool entered (HasEnteredSeenFree p r) (HasGivenUpWriting (m + n) p r)
-ends_after m n p q r true tried ended = entered_after m p q r tried ended
-ends_after m n p q r false tried ended = gave_up_after m n p q r tried ended
+ends_after m n p q r entered h1 h2 = grind (arith, nat_tests, eqb-true, eqb-false)
+
+pub tries_after : (m n : ℕ) (p q r : Pass PlayedRwWriter) (entered : Bool) → HasTried m p q → MatchBool entered (HasEnteredSeenFree q r) (HasTried n q r) → MatchBool entered (HasEnteredSeenFree p r) (HasTried (m + n) p r)
+tries_after m n p q r entered h1 h2 = grind (arith, nat_tests, eqb-true, eqb-false)
+
+-- it is still alone where it has seen that nobody holds the lock
+pub alone_still : (n found : ℕ) (p q : Pass PlayedRwWriter) → HasTried n p q → HasJustSeen found q → found ≡ 0 → IsAloneWithin p → IsAloneWithin q
+alone_still n found p q h1 h2 h3 h4 = grind (arith, nat_tests, eqb-true, eqb-false)

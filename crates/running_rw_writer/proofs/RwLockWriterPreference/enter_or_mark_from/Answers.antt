@@ -34,9 +34,6 @@ set_mark-requires-clause-even g c = (marks_some _ _ _ c.marks.ensures.«open» c
 pub set_mark-requires-clause-marked : goal.set_mark-requires-clause-marked
 set_mark-requires-clause-marked g c = (marks_some _ _ _ c.marks.ensures.«open» c.marks.ensures.marked c.marks.ensures.full c.in-Some-marks.is).2
 
-pub returns-in_default-clause-exact : goal.returns-in_default-clause-exact
-returns-in_default-clause-exact g c = λ none alone. let at = c.loop.invariant.exact none alone in c.in-Err.ensures.exact at.0 at.1
-
 pub returns-in-Ok-clause-entered : goal.returns-in-Ok-clause-entered
 returns-in-Ok-clause-entered g c = entered_after 0 _ _ _ c.loop.invariant.tried c.in-Ok.ensures.entered
 
@@ -48,6 +45,3 @@ set_mark-requires-clause-other g c = (marks_some _ _ _ c.marks.ensures.«open» 
 
 pub returns-in-Ok-set_mark-clause-entered : goal.returns-in-Ok-set_mark-clause-entered
 returns-in-Ok-set_mark-clause-entered g c = tried_again 0 0 _ _ _ (tried_again 0 0 _ _ _ c.loop.invariant.tried c.in-Err.ensures.refused.0) c.in-Ok-set_mark.ensures.done
-
-pub returns-in-Ok-set_mark-clause-exact : goal.returns-in-Ok-set_mark-clause-exact
-returns-in-Ok-set_mark-clause-exact g c = λ none alone. let at = c.loop.invariant.exact none alone in c.in-Err.ensures.exact at.0 at.1

@@ -29,11 +29,5 @@ returns-then-taken-clause-gave_up g c = subst (λ (q : Pass PlayedRwWriter). Has
 pub returns-then-taken-clause-played : goal.returns-then-taken-clause-played
 returns-then-taken-clause-played g c = λ done at. inr (subst (λ (q : Pass PlayedRwWriter). WriteGoes (After.At (RwWriterPlace.WakeOne Leaver.GivenUp)) done (parties_of q)) (sym c.wake_both.ensures.still) (c.count_up-counted.ensures.counted Call.WriteLock Leaver.GivenUp done (MatchBool-at_true _ _ c.if-taken.true (c.take_mark_away-taken.ensures.played done at))))
 
-pub returns-clause-gave_up : goal.returns-clause-gave_up
-returns-clause-gave_up g c = subst (λ (q : Pass PlayedRwWriter). HasGivenUpWriting 0 c.args.turn.pass.now q) (sym c.end.ensures.still) c.take_mark_away-taken.ensures.gave_up
-
 pub returns-clause-played : goal.returns-clause-played
 returns-clause-played g c = λ done at. inl (subst (λ (q : Pass PlayedRwWriter). WriteGoes (After.Ends Answer.Interrupted) done (parties_of q)) (sym c.end.ensures.still) (MatchBool-at_false _ _ c.if-taken.false (c.take_mark_away-taken.ensures.played done at)))
-
-pub returns-clause-woke : goal.returns-clause-woke
-returns-clause-woke g c = λ marked. absurd (c.take_mark_away-taken.ensures.unmarked c.if-taken.false (subst (λ (q : Pass PlayedRwWriter). IsMarked (sights_of q).last) c.end.ensures.still marked))
