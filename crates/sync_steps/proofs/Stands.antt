@@ -265,17 +265,23 @@ absent_party z t parties p beyond (e ∷ past) run =
     let below = there_to_move t parties past e.party run.0.0 run.0.1.allowed in
     hold_of_other t e.party p e.act e.then past (λ same. beyond (rw same below)) ∙ absent_party z t parties p beyond past run.1
 
-pub held_at :
+pub party_at :
     {T : Type 0} (z : Arithmetic T) (o : Object T) (parties : ℕ) (past : List (Event T)) (m : Configuration T) (xs : List (Party T)) (p : ℕ) (found : Party T) → StandsAt z o parties past m → xs ≡ m.parties →
-    p < length xs → found ≡ get_or xs p found → found.hold ≡ hold_of (table_of z o) p past
-held_at {T} z o parties past m xs p found at same within there =
+    p < length xs → found ≡ get_or xs p found → IsParty z o found (call_of p past) (hold_of (table_of z o) p past)
+party_at {T} z o parties past m xs p found at same within there =
     let is : slice_get m.parties p ≡ Some found = subst (λ (l : List (Party T)). slice_get l p ≡ Some found) same (slice_get-get_or xs p found within ∙ ap Some (sym there)) in
     let below : p < parties = rw (at.count) at (rw same at within) in
-    (at.each p below found is).hold_is
+    at.each p below found is
+
+pub beyond_at :
+    {T : Type 0} (z : Arithmetic T) (o : Object T) (parties : ℕ) (past : List (Event T)) (m : Configuration T) (xs : List (Party T)) (p : ℕ) → StandsAt z o parties past m → xs ≡ m.parties → length xs ≤ p → parties ≤ p
+beyond_at z o parties past m xs p at same beyond =
+    let count : length xs ≡ parties = ap length same ∙ at.count in
+    omega (arith, count, beyond)
 
 pub unheld_at :
     {T : Type 0} (z : Arithmetic T) (o : Object T) (parties : ℕ) (past : List (Event T)) (m : Configuration T) (xs : List (Party T)) (p : ℕ) → StandsAt z o parties past m → xs ≡ m.parties →
     length xs ≤ p → None ≡ hold_of (table_of z o) p past
 unheld_at {T} z o parties past m xs p at same beyond =
-    let count : length xs ≡ parties = ap length same ∙ at.count in
-    sym (absent_party z (table_of z o) parties p (λ below. absurd (omega (arith, count, beyond, below))) past at.run.1)
+    let far = beyond_at z o parties past m xs p at same beyond in
+    sym (absent_party z (table_of z o) parties p (λ below. absurd (omega (arith, far, below))) past at.run.1)

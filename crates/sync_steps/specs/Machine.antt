@@ -1,5 +1,5 @@
 -- What contracts see of a machine, when a run stands at it, and what its calls promise.
-use Rattle.sync_steps.specs.Names.{◌≡◌, ℕ, ◌-◌, ◌^◌, ◌<◌, min, List, ◌∷◌, length, take, Option, Some, slice_get, false, ForSome, Event, Input, Object, StepFault, Word, HoldKind, Arithmetic, call_of, hold_of, failures_in, after, AtEveryPrefix, word_at}
+use Rattle.sync_steps.specs.Names.{◌≡◌, ℕ, ◌-◌, ◌^◌, ◌<◌, ◌≤◌, min, List, ◌∷◌, length, take, Option, Some, None, slice_get, false, ForSome, Event, Input, Object, StepFault, Word, HoldKind, Arithmetic, call_of, hold_of, failures_in, after, AtEveryPrefix, word_at}
 use Rattle.model_events.specs.declared.words.Words.{Words}
 use Rattle.sync_steps.specs.declared.steps.fault.PlayFault.{PlayFault}
 use Rattle.sync_steps.specs.declared.steps.place.Party.{Party}
@@ -57,6 +57,14 @@ TellsFailed z m count = ForRunAt z m (λ o parties past. count ≡ min (failures
 -- the hold is what the run tells that the party holds
 abbrev pub TellsHold : {T : Type 0} → Arithmetic T → Configuration T → ℕ → Option HoldKind → Type 0
 TellsHold z m party hold = ForRunAt z m (λ o parties past. hold ≡ hold_of (table_of z o) party past)
+
+-- the party is where the run's call is, and has the run's hold; the run has no party that is none
+abbrev pub IsPartyAfter : {T : Type 0} → Arithmetic T → Object T → ℕ → List (Event T) → ℕ → Option (Party T) → Type 0
+IsPartyAfter z o parties past number (Some party) = IsParty z o party (call_of number past) (hold_of (table_of z o) number past)
+IsPartyAfter z o parties past number None = parties ≤ number
+
+abbrev pub TellsParty : {T : Type 0} → Arithmetic T → Configuration T → ℕ → Option (Party T) → Type 0
+TellsParty z m number party = ForRunAt z m (λ o parties past. IsPartyAfter z o parties past number party)
 
 -- the event is the one that the input gives after the run, and the run with it stands at the machine afterwards
 abbrev pub Steps : {T : Type 0} → Arithmetic T → Configuration T → ℕ → Input T → Event T → Configuration T → Type 0

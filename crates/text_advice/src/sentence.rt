@@ -40,7 +40,7 @@ pub fn list_calls(out: &mut Vec<u8>, words: &[u8], object: Object<()>) -> Result
 }
 
 /// Adds words, and then all that a line may ask of the object: its calls, and the verbs of a call under way.
-fn list_all(out: &mut Vec<u8>, words: &[u8], object: Object<()>) -> Result<(), AllocError>
+pub fn list_asked(out: &mut Vec<u8>, words: &[u8], object: Object<()>) -> Result<(), AllocError>
     ensures { OnOk result (out.new.items ≡ out.old.items ++ meaning.may_ask words.now object) }
 {
     list_calls(out, words, object)?;
@@ -53,7 +53,7 @@ fn refuse_name(out: &mut Vec<u8>, object: Object<()>, name: &[u8]) -> Result<(),
 {
     out.extend_from_slice(has_no_call(object))?;
     repeat(out, name)?;
-    list_all(out, b"`: ", object)
+    list_asked(out, b"`: ", object)
 }
 
 /// Whether a word begins as a comment does in many languages.
@@ -103,7 +103,7 @@ fn of_words(
     if is_comment(party) {
         out.extend_from_slice(b"a text has no comments")
     } else if is_no_number(party) {
-        list_all(
+        list_asked(
             out,
             b"a line begins with the number of a party, and then says what it does: ",
             object,
@@ -111,7 +111,7 @@ fn of_words(
     } else {
         match next_word(rest) {
             Some((name, _)) => of_verb(out, object, name),
-            None => list_all(out, b"a line has a party and what it does: ", object),
+            None => list_asked(out, b"a line has a party and what it does: ", object),
         }
     }
 }
@@ -122,7 +122,7 @@ fn of_bad_line(out: &mut Vec<u8>, object: Object<()>, line: &[u8]) -> Result<(),
 {
     match next_word(line) {
         Some((party, rest)) => of_words(out, object, party, rest),
-        None => list_all(out, b"a line has a party and what it does: ", object),
+        None => list_asked(out, b"a line has a party and what it does: ", object),
     }
 }
 

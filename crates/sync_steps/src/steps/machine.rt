@@ -3,7 +3,7 @@ ghost use Rattle.model_events.specs.declared.event.Input.TheVariants as inputs;
 ghost use Rattle.model_events.specs.declared.event.Word.TheVariants as words;
 ghost use Rattle.model_events.specs.Past.{event};
 ghost use Rattle.sync_steps.specs.Objects.{IsObject};
-ghost use Rattle.sync_steps.specs.Machine.{StandsAt, TellsObject, Tells, IsNoneWithout, TellsFailed, TellsHold, Steps, RefusesStep, KeepsHeadline};
+ghost use Rattle.sync_steps.specs.Machine.{StandsAt, TellsObject, Tells, IsNoneWithout, TellsFailed, TellsHold, TellsParty, Steps, RefusesStep, KeepsHeadline};
 ghost use Rattle.sync_steps.specs.Machine.Applies.{HasWritten, HasTurned, HasRefused};
 ghost use Rattle.sync_steps.specs.Machine.Places.{opening_at};
 ghost use Rattle.model_events.specs.declared.event.Word.{Word as AnyWord};
@@ -120,6 +120,16 @@ impl<T: AtomicInteger, A: Allocator> Machine<T, A> {
     {
         match self.parties.get(party) {
             Some(found) => found.hold,
+            None => None,
+        }
+    }
+
+    /// Where a party is, counted from 0: the call that it has under way, and what it holds; `None` where there is no such party.
+    pub fn party(&self, party: usize) -> Option<Party<T>>
+        ensures { TellsParty T.arithmetic self.now party result }
+    {
+        match self.parties.get(party) {
+            Some(found) => Some(*found),
             None => None,
         }
     }
