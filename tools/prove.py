@@ -10,9 +10,9 @@ WHAT is `proofs`, `tests`, `programs`, `edits`, `tries` or `cases`, each alone o
     tries      the tests of each crate are run as they are, unproved
     cases      each text of examples is read by the programs as they are, unproved
 
-It works in copies beside the checkout's history (.git/lanes), a lane each, since a command of rt locks the crates that it reads. What these keep
-serves the next call. A line is printed for each part of a crate, on a terminal how far it is; then what it cost, and how many passed and failed,
-which goes to the file too.
+It works in copies beside the checkout's history (.git/lanes), a lane each, since a command of rt locks the crates that it reads. What one of them has
+proved the others take, by links, and so does the next call. A line is printed for each part of a crate, on a terminal how far it is; then what it
+cost, and how many passed and failed, which goes to the file too.
 """
 import argparse
 import concurrent.futures
@@ -30,6 +30,8 @@ import time
 
 import edits
 
+# What rt makes of a crate that a proof goes on from: the library that others stand on, and what was found of each of its functions.
+MADE = ("rlib", "incremental")
 PARTS = ("src", "specs", "proofs", "must-fail", "data", "stdin", "stdout", "args", "status")
 # What a verdict may say in its last line. `main` is of programs and tests, `may-abort` of tests.
 WORDS = {"logic", "functions", "tests", "axioms", "target", "cpu", "threads", "main", "may-wait", "sum", "native", "logic-built", "libraries-built", "statements", "incremental"}
@@ -50,10 +52,11 @@ EXAMPLES = {
 
 
 class Crate:
-    """A crate of crates.txt: the repository's crates that it uses, and what stands in its folder."""
+    """A crate of crates.txt: the repository's crates that it uses, all that it stands on, and what stands in its folder."""
 
     def __init__(self, top, name, libraries):
-        self.name, self.libraries, self.folder = name, libraries, f"{top}/crates/{name}"
+        self.name, self.libraries, self.folder = name, [it.name for it in libraries], f"{top}/crates/{name}"
+        self.below = {below for it in libraries for below in (it.name, *it.below)}
         sources = [it for it in glob.glob(f"{self.folder}/**/*.*t", recursive=True) if "/out/" not in it]
         texts = [edits.text_of(it) for it in sources]
         self.lines = sum(it.count("\n") for it in texts)
@@ -76,7 +79,7 @@ def crates_of(top):
             if it in named:
                 put(it)
         if name not in order:
-            order[name] = Crate(top, name, [it for it in named[name] if it in named])
+            order[name] = Crate(top, name, [order[it] for it in named[name] if it in named])
 
     for name in named:
         put(name)
@@ -98,20 +101,71 @@ class Told:
         self.passed, self.failed, self.line, self.why = passed, failed, line, why
 
 
+class Shelf:
+    """What the lanes have proved. A lane that lacks a library would prove it again, from nothing."""
+
+    def __init__(self, folder, crates):
+        self.folder = folder
+        keep_alone(folder, crates)
+
+    def put(self, lane, crate):
+        """Keeps what a lane has made of a crate, which it has proved."""
+        for part in MADE:
+            link(f"{lane.made_of(crate.name)}/{part}", f"{self.folder}/{crate.name}/{part}")
+
+    def has(self, lane, crate):
+        """Whether it keeps what the lane has of a crate."""
+        return stamp_of(lane.made_of(crate.name)) == stamp_of(f"{self.folder}/{crate.name}")
+
+    def give(self, lane, crate):
+        """Gives a lane what it lacks of a crate, and of the libraries that this stands on."""
+        for name in (*crate.below, crate.name):
+            own, kept = lane.made_of(name), f"{self.folder}/{name}"
+            if stamp_of(kept) not in (None, stamp_of(own)):
+                shutil.rmtree(f"{own}/incremental", ignore_errors=True)
+                link(f"{kept}/rlib", f"{own}/rlib")
+            if name == crate.name and not os.path.isdir(f"{own}/incremental"):
+                link(f"{kept}/incremental", f"{own}/incremental")
+
+
+def keep_alone(folder, names):
+    """Takes away what lies in a folder under other names than these."""
+    os.makedirs(folder, exist_ok=True)
+    for it in os.listdir(folder):
+        if it not in names:
+            shutil.rmtree(f"{folder}/{it}")
+
+
+def stamp_of(made):
+    """By what rt tells whether a library is of the text that stands there."""
+    path = f"{made}/rlib/stamp"
+    return edits.text_of(path) if os.path.isfile(path) else None
+
+
+def link(folder, to):
+    """Puts a folder's files at a second place too, all or none. rt writes none of them in place, so the two stay apart."""
+    for it in (to, f"{to}.new"):
+        shutil.rmtree(it, ignore_errors=True)
+    if os.path.isdir(folder):
+        shutil.copytree(folder, f"{to}.new", copy_function=os.link)
+        os.replace(f"{to}.new", to)
+
+
 class Lane:
     """A copy of the crates, in which one command of rt runs at a time."""
 
-    def __init__(self, top, folder):
-        self.top, self.folder, self.child, self.seconds = top, folder, None, 0.0
+    def __init__(self, top, folder, shelf):
+        self.top, self.folder, self.shelf, self.child = top, folder, shelf, None
         os.makedirs(f"{folder}/.git", exist_ok=True)
         for name in ("crates.txt", "HANDLES"):
             shutil.copy2(f"{top}/{name}", folder)
         names = os.listdir(f"{top}/crates")
-        for name in os.listdir(f"{folder}/crates") if os.path.isdir(f"{folder}/crates") else ():
-            if name not in names:
-                shutil.rmtree(f"{folder}/crates/{name}")
+        keep_alone(f"{folder}/crates", names)
         for name in names:
             self.copy(name)
+
+    def made_of(self, name):
+        return f"{self.folder}/crates/{name}/out"
 
     def copy(self, name):
         """Gives the lane a crate's files as they stand in the checkout, and leaves what rt made of it."""
@@ -171,13 +225,14 @@ def prove(lane, crate, jobs):
         return Told(0)
     words = ["--jobs", str(jobs), "--empty-contracts"]
     status, said = lane.run(crate, ["rt", "lib", *words])
-    how = "proved"
+    if status == 0 and "\nlogic=" not in "\n" + said and lane.shelf.has(lane, crate):
+        return Told(1, 0, "kept by this machine")
     if status == 0 and "\nlogic=" not in "\n" + said:
-        how = "kept by this machine, and looked through again"
         status, said = lane.run(crate, ["rt", "check", *words])
     if status or not is_verdict(said):
         return Told(0, 1, "NOT PROVED", why_of(said))
-    return Told(1, 0, how)
+    lane.shelf.put(lane, crate)
+    return Told(1, 0, "proved")
 
 
 def test(lane, crate, jobs):
@@ -278,17 +333,7 @@ def put(folder, texts):
 
 def closed(names, crates):
     """These crates and all that they stand on, or all crates."""
-    found = set()
-
-    def add(name):
-        if name not in found:
-            found.add(name)
-            for it in crates[name].libraries:
-                add(it)
-
-    for name in names or crates:
-        add(name)
-    return found
+    return {it for name in names or crates for it in (name, *crates[name].below)}
 
 
 def latest_first(top):
@@ -365,6 +410,7 @@ def run_all(tasks, lanes, progress):
         began = time.time()
         if any(given[it][0].failed for it in task.after if it[0] == "proofs"):
             return Told(0, 1, "not tried, since what it stands on is not proved"), 0
+        lane.shelf.give(lane, task.crate)
         return task.call(lane, task.crate, jobs), time.time() - began
 
     with concurrent.futures.ThreadPoolExecutor(len(lanes)) as pool:
@@ -453,7 +499,8 @@ def main(words):
     except BlockingIOError:
         print("waiting for another call in this checkout to end", flush=True)
         fcntl.flock(held, fcntl.LOCK_EX)
-    lanes = [Lane(top, f"{at}/{number}") for number in range(max(1, min(asked.lanes, len(tasks))))]
+    shelf = Shelf(f"{at}/proved", crates)
+    lanes = [Lane(top, f"{at}/{number}", shelf) for number in range(max(1, min(asked.lanes, len(tasks))))]
     try:
         given = run_all(tasks, lanes, Progress(tasks))
     except KeyboardInterrupt:
