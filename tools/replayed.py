@@ -11,6 +11,7 @@ import subprocess
 import sys
 
 NO_ANSWERS = ("waits", "wakes", "chooses")
+VERBS = ("go", "run", "wait", "abort")
 CLOSURES = (["aborts"], ["may", "abort"], ["sleeps"])
 
 
@@ -27,9 +28,18 @@ def call_in(item):
     return None if not words or words[0] in ("set", "add", "sub") else " ".join(words)
 
 
+def opening_of(question):
+    """The lines that are played first."""
+    for line in question.splitlines()[1:]:
+        first, _, lines = line.strip().partition(" ")
+        if first == "begin":
+            return lines.split(" / ")
+    return []
+
+
 def calls_of(question):
-    """The calls of each party, in the question's order: (party, call)."""
-    calls = []
+    """The calls of each party, those of the opening and then in the question's order: (party, call)."""
+    calls = [tuple(line.split(" ", 1)) for line in opening_of(question) if line.split()[1] not in VERBS]
     for line in question.splitlines()[1:]:
         party, _, rest = line.strip().partition(" ")
         if not party.isdigit():
@@ -267,8 +277,14 @@ def wrong_outcomes(question, answer):
                 wrong.append(f"{text}: {played.stderr.strip() or played.stdout}, and not {outcome}")
         elif played.returncode != 0 or told(question, entries, played.stdout) != outcome:
             wrong.append(f"{text}: {played.stderr.strip() or told(question, entries, played.stdout)}, and not {outcome}")
-        wrong += slept_wrong(question, "\n".join([question.splitlines()[0], *entries]) + "\n", outcome)
+        wrong += slept_wrong(question, "\n".join([question.splitlines()[0], *entries]) + "\n", outcome) + opened_wrong(question, entries)
     return wrong
+
+
+def opened_wrong(question, entries):
+    """What is wrong where a text does not begin with the opening."""
+    opening = opening_of(question)
+    return [] if entries[: len(opening)] == opening else [f"{' / '.join(entries)} does not begin with the opening"]
 
 
 def wrong_terms(question, answer, terms):
@@ -282,7 +298,7 @@ def wrong_terms(question, answer, terms):
     if played.returncode != 0:
         return [played.stderr.strip()]
     wrong = [f"{term} does not hold at the end of the text" for term in terms if not holds(term, question, answer, entries, played.stdout)]
-    return wrong + slept_wrong(question, answer, "")
+    return wrong + slept_wrong(question, answer, "") + opened_wrong(question, entries)
 
 
 def main():
