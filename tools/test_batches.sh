@@ -1,11 +1,13 @@
 # The tool that proves and tries edits, on a crate of three functions and one test: what is no bug, what cannot be read, and what is refused for a name
 # alone, fails it and says so, beside wrong bodies in the same check; so do a test that fails and a crate that is not proved. Of three edits on which a
-# search gave up, over a checker that only pretends, two fail: one has no control, and that of the other is refused like it.
+# search gave up, over a checker that only pretends, two fail: one has no control, and that of the other is refused like it. What was proved is kept
+# from call to call, and does not serve another text.
 test_batches() {
     local top=$room/batches crate=$room/batches/crates/sizes
     mkdir -p -- "$top/tools" "$crate/src" "$crate/proofs/no" "$crate/must-fail"
     cp -- tools/prove.py tools/edits.py "$top/tools"
     cp -- HANDLES "$top"
+    git init -q -- "$top"
     echo "sizes:" >"$top/crates.txt"
     cat >"$crate/src/lib.rt" <<'RT'
 //! Three functions, of which wrong bodies are tried.

@@ -179,7 +179,7 @@ module _ {V P : Type 0} (m : Model V P) (names : List Word) where
     pub updates_by_act :
         ((n : ℕ) (past : List (Event V)) → IsPast m.arithmetic m.table n past → m.law past) → AreApart names → StaysOnNoWord follow → ((found : List ℕ) (homes : List (maybe.Option (Unit {0}))) (c : C) → agree found homes c) →
         (sees : Act V → Sights → Sights) (after : Act V → Call V → C → C) (needs : Act V → C → Type 0) → GoesOnByActs m add follow after needs → (coming : Coming V) (v : View (Played M Q V C)) (i : ℕ) (intent : Word → Intent V) (f shows : ℕ → ℕ) →
-        MayStep m names coming i intent v.tally.parties → HasNeeds needs intent v.tally.counts →
+        MayStep m names coming i intent v.tally.parties → HasNeeds names i needs intent v.tally.counts →
         ((w : Word) (n : ℕ) → effect (intent w) n ≡ f n) → ((w : Word) (n : ℕ) → carried_out (intent w) (λ _. n) ≡ carried_out (intent w) (λ _. shows n)) →
         Updates (none_played none) (both_played add) (PlaysAndCounts m names agree follow) v i f (λ found. SteppedByAct m add follow sees after coming v (shows found))
     updates_by_act lawful apart quiet free sees after needs goes coming v i intent f shows may has leaves so = record {
@@ -194,7 +194,7 @@ module _ {V P : Type 0} (m : Model V P) (names : List Word) where
               played = made_run _ _ _ _ _ _ _ _ _ _ _ _ a;
               agrees = free _ _ _;
               follows = subst (λ (act : Act V). follow (a.latest ∷ a.past) (add (after act may.call v.tally.counts) rest.counts)) a.step.act
-                  (goes may.call may.place may.hold a.past a.latest (shows x) a.step v.tally.counts rest.counts (subst (λ (act : Act V). needs act v.tally.counts) (sym a.act_is) (has may.name (shows x))) a.says);
+                  (goes may.call may.place may.hold a.past a.latest (shows x) a.step v.tally.counts rest.counts (subst (λ (act : Act V). needs act v.tally.counts) (sym a.act_is) (has may.name (shows x) may.named)) a.says);
             },
             record {
               went = a.went;

@@ -20,9 +20,9 @@ pub record IsShare {V C P : Type 0} (m : Model V P) (add : C → C → C) (follo
   pub rest : C
   pub beside : WentBeside m (λ past. follow past (add counts rest)) coming p found
 
--- whatever the step finds, its act has what it needs of what the pass counts
-abbrev pub HasNeeds : {V C : Type 0} → (Act V → C → Type 0) → (Word → Intent V) → C → Type 0
-HasNeeds needs intent counts = (name : Word) (found : ℕ) → needs (carried_out (intent name) (λ _. found)) counts
+-- whatever the step finds on the word at this index, its act has what it needs of what the pass counts
+abbrev pub HasNeeds : {V C : Type 0} → List Word → ℕ → (Act V → C → Type 0) → (Word → Intent V) → C → Type 0
+HasNeeds names i needs intent counts = (name : Word) (found : ℕ) → IsNamed names i name → needs (carried_out (intent name) (λ _. found)) counts
 
 -- What each party counts by its act, all count: if the run says of what all passes count, then it says so of it after the next step.
 abbrev pub GoesOnByActs : {V C P : Type 0} → Model V P → (C → C → C) → (List (Event V) → C → Type 0) → (Act V → Call V → C → C) → (Act V → C → Type 0) → Type 0

@@ -49,7 +49,7 @@ impl<'p, M, P, V, C, W> Turn<'p, Pass<Played<M, P, V, C>>, W> {
         requires own { IsPassOf at.now self.pass.now }
         requires inside { word < count_of at.now }
         requires may { MayStep (M.model (key_of at.now)) M.names W.coming word (λ w. intents.Load w) (parties_of self.pass.now) }
-        requires needs { HasNeeds C.needs (λ w. intents.Load w) (counts_of self.pass.now) }
+        requires needs { HasNeeds M.names word C.needs (λ w. intents.Load w) (counts_of self.pass.now) }
         ensures same_borrow { result.1.pass.ghost_name ≡ self.entry.pass.ghost_name }
         ensures same { IsSamePass self.entry.pass.now result.1.pass.now }
         ensures went { Went (M.model (key_of at.now)) W.coming (parties_of self.entry.pass.now) result.0 (parties_of result.1.pass.now) }
@@ -82,7 +82,7 @@ impl<'p, M, P, V, C, W> Turn<'p, Pass<Played<M, P, V, C>>, W> {
         requires own { IsPassOf at.now self.pass.now }
         requires inside { word < count_of at.now }
         requires may { MayStep (M.model (key_of at.now)) M.names W.coming word (λ w. intents.Store w put) (parties_of self.pass.now) }
-        requires needs { HasNeeds C.needs (λ w. intents.Store w put) (counts_of self.pass.now) }
+        requires needs { HasNeeds M.names word C.needs (λ w. intents.Store w put) (counts_of self.pass.now) }
         ensures same_borrow { result.pass.ghost_name ≡ self.entry.pass.ghost_name }
         ensures same { IsSamePass self.entry.pass.now result.pass.now }
         ensures went { Went (M.model (key_of at.now)) W.coming (parties_of self.entry.pass.now) put (parties_of result.pass.now) }
@@ -115,7 +115,7 @@ impl<'p, M, P, V, C, W> Turn<'p, Pass<Played<M, P, V, C>>, W> {
         requires own { IsPassOf at.now self.pass.now }
         requires inside { word < count_of at.now }
         requires may { MayStep (M.model (key_of at.now)) M.names W.coming word (λ w. intents.Exchange w from to) (parties_of self.pass.now) }
-        requires needs { HasNeeds C.needs (λ w. intents.Exchange w from to) (counts_of self.pass.now) }
+        requires needs { HasNeeds M.names word C.needs (λ w. intents.Exchange w from to) (counts_of self.pass.now) }
         ensures same_borrow { result.1.pass.ghost_name ≡ self.entry.pass.ghost_name }
         ensures same { IsSamePass self.entry.pass.now result.1.pass.now }
         ensures went { Went (M.model (key_of at.now)) W.coming (parties_of self.entry.pass.now) result.0 (parties_of result.1.pass.now) }
@@ -150,7 +150,7 @@ impl<'p, M, P, V, C, W> Turn<'p, Pass<Played<M, P, V, C>>, W> {
         requires own { IsPassOf at.now self.pass.now }
         requires inside { word < count_of at.now }
         requires may { MayStep (M.model (key_of at.now)) M.names W.coming word (λ w. intents.Add w more) (parties_of self.pass.now) }
-        requires needs { HasNeeds C.needs (λ w. intents.Add w more) (counts_of self.pass.now) }
+        requires needs { HasNeeds M.names word C.needs (λ w. intents.Add w more) (counts_of self.pass.now) }
         ensures same_borrow { result.1.pass.ghost_name ≡ self.entry.pass.ghost_name }
         ensures same { IsSamePass self.entry.pass.now result.1.pass.now }
         ensures went { Went (M.model (key_of at.now)) W.coming (parties_of self.entry.pass.now) result.0 (parties_of result.1.pass.now) }
@@ -185,7 +185,7 @@ impl<'p, M, P, V, C, W> Turn<'p, Pass<Played<M, P, V, C>>, W> {
         requires own { IsPassOf at.now self.pass.now }
         requires inside { word < count_of at.now }
         requires may { MayStep (M.model (key_of at.now)) M.names W.coming word (λ w. intents.Subtract w less) (parties_of self.pass.now) }
-        requires needs { HasNeeds C.needs (λ w. intents.Subtract w less) (counts_of self.pass.now) }
+        requires needs { HasNeeds M.names word C.needs (λ w. intents.Subtract w less) (counts_of self.pass.now) }
         ensures same_borrow { result.1.pass.ghost_name ≡ self.entry.pass.ghost_name }
         ensures same { IsSamePass self.entry.pass.now result.1.pass.now }
         ensures went { Went (M.model (key_of at.now)) W.coming (parties_of self.entry.pass.now) result.0 (parties_of result.1.pass.now) }

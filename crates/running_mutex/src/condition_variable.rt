@@ -181,14 +181,9 @@ impl CondPass {
 }
 
 impl<A: Allocator> ConditionVariable<A> {
-    ghost use Rattle.std.specs.Borrow.{sem, u64};
+    ghost use Rattle.std.specs.Borrow.{sem};
     ghost use Rattle.std.specs.Prelude.{ℕ, List, ◌<◌, ◌⊎◌, min};
     ghost use Rattle.running_passes.specs.Answers.{IfSuccess, IfInterrupted, IsSuccess, RestsIfInterrupted, HasWoken};
-    ghost use Rattle.running_passes.specs.contracts.pass.Pass.{the_row};
-    ghost use Rattle.running_tallies.specs.contracts.mutex.Holds as holds_row;
-    ghost use Rattle.running_tallies.specs.contracts.mutex.MutexScript as script_row;
-    ghost use Rattle.model_mutex.specs.contracts.MutexPlace as place_row;
-    ghost use Rattle.running_model.specs.contracts.played.Played as played_row;
     ghost use Rattle.running_passes.specs.Parts.{IsWhole};
     ghost use Rattle.running_model.specs.Stages.{IsPassOf};
     ghost use Rattle.running_model.specs.Counts.{HasSeen, HasDone};
@@ -202,7 +197,7 @@ impl<A: Allocator> ConditionVariable<A> {
     ghost use Rattle.running_mutex.specs.CondParties.{IsInside, IsOut, Plays};
     ghost use Rattle.running_semaphore.specs.SemaphoreShown.{IsSemPass, worth_of, HasTaken, HasPlayed as HasPlayedPermit};
     ghost use Rattle.running_mutex.specs.MutexShown.{HasPlayedUnlock};
-    ghost use Rattle.running_mutex.specs.MutexShown.{holds_of, pass_of, borrow_of, HasUnlocked};
+    ghost use Rattle.running_mutex.specs.MutexShown.{mutex_row, holds_of, pass_of, borrow_of, HasUnlocked};
     ghost use Rattle.running_mutex.specs.CondShown.{IsCondPass, waits_in, permits_in, HasGiven, HasNotified, held_by, woken_of, IfSignalled, IfUnsignalled, HasWaited, HasNotTaken, HasSlept, HasRegained, HasLeft, LeavesCounted, HasPlayedAgain};
 
     /// A condition variable at which nobody waits, and the pass that is whole. `Err` where there was no memory; then nothing was made.
@@ -273,7 +268,7 @@ impl<A: Allocator> ConditionVariable<A> {
     ) -> WaitResult<Woken<MutexHold<'p>>>
         requires own { IsCondPass this.now pass.old × IsMutexPass mtx.now (pass_of hold) }
         requires may { K.IsAlwaysCallable mtx_wake_one × W.IsAlwaysCallable wait × M.IsAlwaysCallable mtx_wait }
-        ensures* left { sem 𝓛 (RestsIfInterrupted (the_row (played_row.the_row script_row.the_row place_row.the_row u64 holds_row.the_row)) hold.entry.pass (λ woken. borrow_of (held_by woken)) result (λ q. HasLeft M.Fn mtx_wait (pass_of hold.entry) q × HasPlayedAgain answers.Interrupted None (pass_of hold.entry) q)) }
+        ensures* left { sem 𝓛 (RestsIfInterrupted mutex_row hold.entry.pass (λ woken. borrow_of (held_by woken)) result (λ q. HasLeft M.Fn mtx_wait (pass_of hold.entry) q × HasPlayedAgain answers.Interrupted None (pass_of hold.entry) q)) }
         ensures relocked { IfSuccess result (λ woken. HasPlayedAgain answers.Success (Some kinds.Write) (pass_of hold.entry) (pass_of (held_by woken))) }
         ensures took { IfSignalled result (HasPlayedPermit (initial_of this.now.semaphore) calls.Wait answers.Success (permits_in pass.old) (permits_in pass.new)) }
         ensures took_none { IfUnsignalled result (HasPlayedPermit (initial_of this.now.semaphore) calls.Wait answers.Interrupted (permits_in pass.old) (permits_in pass.new)) }

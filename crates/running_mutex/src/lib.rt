@@ -87,7 +87,7 @@ impl Called<u64> for UnlockCall {
 }
 
 impl<A: Allocator> Mutex<A> {
-    ghost use Rattle.std.specs.Borrow.{sem, u64};
+    ghost use Rattle.std.specs.Borrow.{sem};
     ghost use Rattle.std.specs.Prelude.{true, false, ◌+◌, [], ◌∷◌, Some, None, MatchBool};
     ghost use Rattle.model_events.specs.declared.event.Word.TheVariants as words;
     ghost use Rattle.model_events.specs.declared.event.Call.TheVariants as calls;
@@ -95,22 +95,17 @@ impl<A: Allocator> Mutex<A> {
     ghost use Rattle.model_events.specs.declared.hold.HoldKind.TheVariants as kinds;
     ghost use Rattle.model_events.specs.declared.row.Intent.TheVariants as intents;
     ghost use Rattle.running_tallies.specs.MutexScript.{mutex_model};
-    ghost use Rattle.model_mutex.specs.contracts.MutexPlace as place_row;
     ghost use Rattle.running_passes.specs.Answers.{IfSuccess, IfInterrupted, IsSuccess, RestsIfInterrupted, MayAnswerAbort, HasWoken};
     ghost use Rattle.running_passes.specs.Passes.{view};
     ghost use Rattle.running_passes.specs.Views.{first_view};
-    ghost use Rattle.running_passes.specs.contracts.pass.Pass.{the_row};
-    ghost use Rattle.running_model.specs.contracts.played.Played as played_row;
     ghost use Rattle.running_model.specs.Slots.{no_parties};
     ghost use Rattle.running_model.specs.Plays.{MayStep, Beginning};
     ghost use Rattle.running_model.specs.Passes.{played};
     ghost use Rattle.running_model.specs.Counts.{HasGivenUp};
     ghost use Rattle.running_model.specs.Stages.{id_of};
-    ghost use Rattle.running_tallies.specs.contracts.mutex.Holds as holds_row;
-    ghost use Rattle.running_tallies.specs.contracts.mutex.MutexScript as script_row;
     ghost use Rattle.running_tallies.specs.MutexRule.{no_holds};
     ghost use Rattle.running_tallies.specs.Shown.{object_shown, index_shown};
-    ghost use Rattle.running_mutex.specs.MutexShown.{IsMutexPass, IsAlone, IsLocked, holds_of, grants_of, pass_of, borrow_of, HasLocked, HasSeenLocked, HasUnlocked, HasEntered, HasStayed, HasTried, HasPlayed, HasPlayedUnlock, HasPlayedBoth};
+    ghost use Rattle.running_mutex.specs.MutexShown.{mutex_row, IsMutexPass, IsAlone, IsLocked, holds_of, grants_of, pass_of, borrow_of, HasLocked, HasSeenLocked, HasUnlocked, HasEntered, HasStayed, HasTried, HasPlayed, HasPlayedUnlock, HasPlayedBoth};
 
     /// A mutex that is free, and the pass that is whole. `Err` where there was no memory; then nothing was made.
     pub fn new(alloc: A) -> Result<(Mutex<A>, MutexPass), AllocError>
@@ -132,7 +127,7 @@ impl<A: Allocator> Mutex<A> {
     ) -> WaitResult<MutexHold<'p>>
         requires own { IsMutexPass this.now pass.old }
         requires may { W.IsAlwaysCallable wait }
-        ensures* refused { sem 𝓛 (RestsIfInterrupted (the_row (played_row.the_row script_row.the_row place_row.the_row u64 holds_row.the_row)) pass.entry borrow_of result (λ q. HasGivenUp W.Fn wait IsLocked pass.old q × HasPlayed calls.Lock answers.Interrupted None pass.old q)) }
+        ensures* refused { sem 𝓛 (RestsIfInterrupted mutex_row pass.entry borrow_of result (λ q. HasGivenUp W.Fn wait IsLocked pass.old q × HasPlayed calls.Lock answers.Interrupted None pass.old q)) }
         ensures same_borrow { IfSuccess result (λ hold. borrow_of hold ≡ pass.entry.ghost_name) }
         ensures granted { IfSuccess result (λ hold. HasEntered pass.old (pass_of hold)) }
         ensures played { IfSuccess result (λ hold. HasPlayed calls.Lock answers.Success (Some kinds.Write) pass.old (pass_of hold)) }
@@ -177,7 +172,7 @@ impl<A: Allocator> Mutex<A> {
     #[inline(always)]
     pub fn try_lock<'p>(pass: &'p mut MutexPass, this: &Self) -> WaitResult<MutexHold<'p>>
         requires own { IsMutexPass this.now pass.old }
-        ensures* refused { sem 𝓛 (RestsIfInterrupted (the_row (played_row.the_row script_row.the_row place_row.the_row u64 holds_row.the_row)) pass.entry borrow_of result (λ q. HasSeenLocked pass.old q × HasPlayed calls.TryLock answers.Interrupted None pass.old q)) }
+        ensures* refused { sem 𝓛 (RestsIfInterrupted mutex_row pass.entry borrow_of result (λ q. HasSeenLocked pass.old q × HasPlayed calls.TryLock answers.Interrupted None pass.old q)) }
         ensures same_borrow { IfSuccess result (λ hold. borrow_of hold ≡ pass.entry.ghost_name) }
         ensures granted { IfSuccess result (λ hold. HasLocked pass.old (pass_of hold)) }
         ensures played { IfSuccess result (λ hold. HasPlayed calls.TryLock answers.Success (Some kinds.Write) pass.old (pass_of hold)) }

@@ -2,6 +2,12 @@
 use Rattle.running_rw_reader.specs.Names.{◌≡◌, ◌≢◌, ℕ, ◌+◌, ◌-◌, ◌^◌, ◌<◌, ◌≤◌, Option, Call, Answer, HoldKind, rw_reader_model, IsWhole, IsSamePass, part_of, sights_of, looked, missed, wrote, HasCalled, parties_of, tally_of, counted, HasOnlySeen, HasMoved, Ghosts, RwHold, read_holds, write_holds, Holds, no_holds, read, no_more_read, written}
 use Rattle.running_passes.specs.declared.part.Part.{Part}
 use Rattle.running_passes.specs.declared.pass.Pass.{Pass}
+use Rattle.std.specs.Borrow.{RattleType, u64, unit}
+use Rattle.running_passes.specs.contracts.pass.Pass.{the_row}
+use Rattle.running_model.specs.contracts.played.Played as played_row
+use Rattle.running_tallies.specs.contracts.rw_reader.RwReaderScript as script_row
+use Rattle.model_rw_reader.specs.contracts.RwReaderPlace as place_row
+use Rattle.running_tallies.specs.contracts.held.Held as held_row
 use Rattle.running_model.specs.Stages.{IsPassOf}
 use Rattle.running_rw_reader.specs.declared.RwLockReaderPreference.{RwLockReaderPreference}
 use Rattle.running_rw_hold.specs.RwShown.{IsReadHold, IsWriteHold, kind_of, pass_of, TurnsAway}
@@ -11,6 +17,10 @@ use Rattle.running_rw_reader.specs.RwReaderSteps.{PlayedRwReader}
 -- the pass of a reader-preferring lock
 abbrev pub RwReaderPass : Type 0
 RwReaderPass = Pass PlayedRwReader
+
+-- its type, as the checker knows of what is lent
+abbrev pub reader_row : RattleType
+reader_row = the_row (played_row.the_row script_row.the_row place_row.the_row u64 (held_row.the_row unit))
 
 abbrev pub IsRwReaderPass : {A : Type 0} → RwLockReaderPreference A → RwReaderPass → Type 0
 IsRwReaderPass l p = IsPassOf l.stage p

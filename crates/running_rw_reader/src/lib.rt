@@ -54,25 +54,20 @@ pub type RwReaderPass = Pass<PlayedRwReader>;
 impl<A: Allocator> RwLockReaderPreference<A> {
     ghost use Rattle.std.specs.Prelude.{IfOk, Some, None};
     ghost use Rattle.running_model.specs.Passes.{counts_of as tally_of, played};
-    ghost use Rattle.std.specs.Borrow.{sem, u64, unit};
+    ghost use Rattle.std.specs.Borrow.{sem};
     ghost use Rattle.model_events.specs.declared.event.Call.TheVariants as calls;
     ghost use Rattle.model_events.specs.declared.event.Answer.TheVariants as answers;
     ghost use Rattle.model_events.specs.declared.hold.HoldKind.TheVariants as kinds;
-    ghost use Rattle.model_rw_reader.specs.contracts.RwReaderPlace as place_row;
     ghost use Rattle.running_passes.specs.Answers.{IfSuccess, IfInterrupted, IsSuccess, RestsIfInterrupted, MayAnswerAbort, HasAsked, HasWoken};
     ghost use Rattle.running_passes.specs.Parts.{IsWhole};
     ghost use Rattle.running_passes.specs.Passes.{view, part_of};
     ghost use Rattle.running_passes.specs.Views.{first_view};
-    ghost use Rattle.running_passes.specs.contracts.pass.Pass.{the_row};
-    ghost use Rattle.running_model.specs.contracts.played.Played as played_row;
     ghost use Rattle.running_model.specs.Slots.{no_parties};
     ghost use Rattle.running_model.specs.Counts.{WasRefused, HasGivenUp};
-    ghost use Rattle.running_tallies.specs.contracts.held.Held as held_row;
-    ghost use Rattle.running_tallies.specs.contracts.rw_reader.RwReaderScript as script_row;
     ghost use Rattle.running_rw_hold.specs.RwShown.{IsReadHold, IsWriteHold, pass_of, borrow_of};
     ghost use Rattle.running_tallies.specs.RwReaderRule.{no_holds};
     ghost use Rattle.running_rw_reader.specs.RwReaderSteps.{word_of};
-    ghost use Rattle.running_rw_reader.specs.RwReaderShown.{IsRwReaderPass, IsAlone, IsShut, IsTaken, WasTurnedAway, HasEnteredToRead, HasEnteredToWrite, HasReadAtOnce, HasWrittenAtOnce, HasSeenTaken, HasUnlocked, HasPlayed, HasPlayedUnlock};
+    ghost use Rattle.running_rw_reader.specs.RwReaderShown.{reader_row, IsRwReaderPass, IsAlone, IsShut, IsTaken, WasTurnedAway, HasEnteredToRead, HasEnteredToWrite, HasReadAtOnce, HasWrittenAtOnce, HasSeenTaken, HasUnlocked, HasPlayed, HasPlayedUnlock};
 
     /// A lock that is free, and the pass that is whole. `Err` where there was no memory; then nothing was made.
     pub fn new(alloc: A) -> Result<(RwLockReaderPreference<A>, RwReaderPass), AllocError>
@@ -91,7 +86,7 @@ impl<A: Allocator> RwLockReaderPreference<A> {
         this: &Self,
     ) -> WaitResult<RwHold<'p, RwReaderPass>>
         requires own { IsRwReaderPass this.now pass.old }
-        ensures* refused { sem 𝓛 (RestsIfInterrupted (the_row (played_row.the_row script_row.the_row place_row.the_row u64 (held_row.the_row unit))) pass.entry borrow_of result (λ q. WasTurnedAway pass.old q × HasPlayed calls.TryReadLock answers.Interrupted None pass.old q)) }
+        ensures* refused { sem 𝓛 (RestsIfInterrupted reader_row pass.entry borrow_of result (λ q. WasTurnedAway pass.old q × HasPlayed calls.TryReadLock answers.Interrupted None pass.old q)) }
         ensures same_borrow { IfSuccess result (λ hold. borrow_of hold ≡ pass.entry.ghost_name) }
         ensures kind { IfSuccess result IsReadHold }
         ensures granted { IfSuccess result (λ hold. HasEnteredToRead pass.old (pass_of hold)) }
@@ -118,7 +113,7 @@ impl<A: Allocator> RwLockReaderPreference<A> {
     ) -> WaitResult<RwHold<'p, RwReaderPass>>
         requires own { IsRwReaderPass this.now pass.old }
         requires may { W.IsAlwaysCallable wait }
-        ensures* refused { sem 𝓛 (RestsIfInterrupted (the_row (played_row.the_row script_row.the_row place_row.the_row u64 (held_row.the_row unit))) pass.entry borrow_of result (λ q. WasRefused IsShut 10002 pass.old q × (IsWhole (part_of pass.old) → HasAsked W.Fn wait IsShut 10001 pass.old q) × HasPlayed calls.ReadLock answers.Interrupted None pass.old q)) }
+        ensures* refused { sem 𝓛 (RestsIfInterrupted reader_row pass.entry borrow_of result (λ q. WasRefused IsShut 10002 pass.old q × (IsWhole (part_of pass.old) → HasAsked W.Fn wait IsShut 10001 pass.old q) × HasPlayed calls.ReadLock answers.Interrupted None pass.old q)) }
         ensures same_borrow { IfSuccess result (λ hold. borrow_of hold ≡ pass.entry.ghost_name) }
         ensures kind { IfSuccess result IsReadHold }
         ensures granted { IfSuccess result (λ hold. HasEnteredToRead pass.old (pass_of hold)) }
@@ -160,7 +155,7 @@ impl<A: Allocator> RwLockReaderPreference<A> {
         this: &Self,
     ) -> WaitResult<RwHold<'p, RwReaderPass>>
         requires own { IsRwReaderPass this.now pass.old }
-        ensures* refused { sem 𝓛 (RestsIfInterrupted (the_row (played_row.the_row script_row.the_row place_row.the_row u64 (held_row.the_row unit))) pass.entry borrow_of result (λ q. HasSeenTaken pass.old q × HasPlayed calls.TryWriteLock answers.Interrupted None pass.old q)) }
+        ensures* refused { sem 𝓛 (RestsIfInterrupted reader_row pass.entry borrow_of result (λ q. HasSeenTaken pass.old q × HasPlayed calls.TryWriteLock answers.Interrupted None pass.old q)) }
         ensures same_borrow { IfSuccess result (λ hold. borrow_of hold ≡ pass.entry.ghost_name) }
         ensures kind { IfSuccess result IsWriteHold }
         ensures granted { IfSuccess result (λ hold. HasEnteredToWrite pass.old (pass_of hold)) }
@@ -187,7 +182,7 @@ impl<A: Allocator> RwLockReaderPreference<A> {
     ) -> WaitResult<RwHold<'p, RwReaderPass>>
         requires own { IsRwReaderPass this.now pass.old }
         requires may { W.IsAlwaysCallable wait }
-        ensures* refused { sem 𝓛 (RestsIfInterrupted (the_row (played_row.the_row script_row.the_row place_row.the_row u64 (held_row.the_row unit))) pass.entry borrow_of result (λ q. HasGivenUp W.Fn wait IsTaken pass.old q × HasPlayed calls.WriteLock answers.Interrupted None pass.old q)) }
+        ensures* refused { sem 𝓛 (RestsIfInterrupted reader_row pass.entry borrow_of result (λ q. HasGivenUp W.Fn wait IsTaken pass.old q × HasPlayed calls.WriteLock answers.Interrupted None pass.old q)) }
         ensures same_borrow { IfSuccess result (λ hold. borrow_of hold ≡ pass.entry.ghost_name) }
         ensures kind { IfSuccess result IsWriteHold }
         ensures granted { IfSuccess result (λ hold. HasEnteredToWrite pass.old (pass_of hold)) }

@@ -1,5 +1,4 @@
 pub mod Names
 pub mod RwWriterKeeps
-pub mod RwWriterCounts
 pub mod RwWriterTries
 pub mod RwWriterPlays

@@ -1,172 +1,148 @@
--- Each step of a writer-preferring lock keeps its rule.
-use Rattle.running_rw_writer.specs.Names.{dite, ℕ_discrete, Sights, View, IsWhole, Each, seen, seen_instead, view_of, looked, missed, wrote, sum_of, Updates, none_played, both_played, core_played, played_add_up, MarkedHolds, read_holds, write_holds, Knows, Locks, same_nothing, tells_same_nothing, Holds, no_holds, both_holds, nothing_marked, both_marked, IsMarkedOrHeld, RwWriterAgrees}
-use Rattle.running_rw_writer.proofs.Names.{◌≡◌, ◌≢◌, ℕ, ◌+◌, ◌-◌, ◌*◌, ◌%◌, ◌^◌, ◌<◌, ◌≤◌, eqb, List, [], ◌∷◌, get_or, set, refl, sym, ap, ◌∙◌, subst, arith, length-set, get_or-set_same}
-use Rattle.std.proofs.lemmas.List.{get_or-set_other}
-use prog.Atomic.{either}
+-- What a step makes of what a pass saw and counts, and what the run says of it.
+use Rattle.running_rw_writer.specs.Names.{dite, ℕ_discrete, Word, Call, Patience, Intent, RwWriterPlace, Slot, Coming, WentAlone, Sights, View, Pass, IsWhole, Each, IsSamePass, part_of, sights_of, parties_of, counts_of, counted, seen, seen_instead, view_of, looked, missed, wrote, sum_of, none_played, both_played, core_played, played_add_up, PlaysAndCounts, IsShare, Told, HasSeen, HasMissed, HasDone, MarkedHolds, read_holds, write_holds, Knows, same_nothing, tells_same_nothing, Holds, no_holds, both_holds, nothing_marked, both_marked, read, no_more_read, written, no_more_written, flagged, lowered, marked_sees, marked_after, AreMarkedIn, IsMarkedOrHeld, rw_writer_model}
+use Rattle.running_rw_writer.proofs.Names.{◌≡◌, ◌≢◌, ℕ, ◌+◌, ◌-◌, ◌*◌, ◌%◌, ◌^◌, ◌<◌, ◌≤◌, ◌==◌, Some, None, List, [], ◌∷◌, inl, inr, get_or, refl, sym, ap, ◌∙◌, subst, arith, eqb-true, eqb-false}
+use Rattle.std.proofs.lemmas.Bool.Decides.{nat_tests}
+use mathlib.Core.Option as maybe
+use Rattle.model_events.specs.declared.event.Act.{Act}
+use Rattle.model_events.specs.Past.{word_in}
+use Rattle.model_events.specs.Rows.{carried_out, value_told}
+use Rattle.running_passes.specs.Objects.{HasClosed}
 use Rattle.running_passes.proofs.Sums.{sum_of_two}
-use Rattle.running_passes.proofs.Updates.{by_look, by_exchange}
-use Rattle.running_tallies.specs.RwWriterTally.{marked_add_up}
-use Rattle.running_rw_writer.specs.RwWriterSteps.{PlayedRwWriter, NoHoldBesideTheWriter, NoMarkWithoutAFlag, IsMarked, word_of, read, written, flagged, SaysAlone, Loaded, IsSeenByWriter, LoadedToWrite, ReaderIn, WriterIn, SetsMark, TakesMark}
-use Rattle.running_tallies.specs.HeldKeeps.{comes_in, goes_out, takes_over, steps_down, parts, only_writes, only_reads}
+use Rattle.running_model.proofs.OfARun.{of_a_run}
+use Rattle.running_model.proofs.Steps.{told_so, found_there}
+use Rattle.running_model.proofs.Words.{hold_at}
+use Rattle.running_rw_hold.specs.RwReading.{MayLook}
+use Rattle.running_tallies.specs.HeldKeeps.{parts, only_writes}
+use Rattle.running_tallies.specs.RwWriterTally.{marked_add_up, held_in}
+use Rattle.model_rw_writer.specs.Table.{rw_writer_table}
+use Rattle.running_rw_writer.specs.RwWriterParties.{TableHas, ComesToWrite}
+use Rattle.running_rw_writer.specs.RwWriterShown.{IsOpen, EntersToRead, HasLeftReading, HasLeftWriting, reads_of, writes_of}
+use Rattle.running_rw_writer.specs.RwWriterSteps.{PlayedRwWriter, all_in, IsRuled, GrantsAreOfARun, NoHoldBesideTheWriter, NoMarkWithoutAFlag, IsMarked, word_of, SaysAlone, Missed, WriterIn}
 
--- how many holds stand, as the word of a lock without a mark would say it
-abbrev holds_say : Holds → ℕ
-holds_say t = read_holds t + write_holds t * (2 ^ 64 - 1)
+-- with what the others count
+abbrev pub Share : Coming ℕ → ℕ → Pass PlayedRwWriter → Type 0
+Share way found p = IsShare rw_writer_model both_marked AreMarkedIn way (parties_of p) found (counts_of p)
 
-locks_of : (words : List ℕ) (t : MarkedHolds) → IsMarkedOrHeld words t → Locks (holds_say t.held) tt t.held
-locks_of words t is = record { word_is = refl; room = omega (arith, is.room); knows = is.knows }
+-- or where there are no others
+abbrev pub Alone : Coming ℕ → ℕ → Pass PlayedRwWriter → Type 0
+Alone way found p = IsWhole (part_of p) → WentAlone rw_writer_model (λ past. AreMarkedIn past (counts_of p)) way (parties_of p) found
 
--- the first word is written, and agrees again
-again : (words : List ℕ) (new mark : ℕ) (t u : MarkedHolds) → IsMarkedOrHeld words t → new ≡ 2 * read_holds u.held + mark + write_holds u.held * (2 ^ 64 - 1) → mark + write_holds u.held ≤ 1 → mark ≤ u.flags
-    → read_holds u.held < 2 ^ 63 - 1 → Knows tt u.held → IsMarkedOrHeld (set words 0 new) u
-again words new mark t u is agrees one flagged room knows = record {
-  two_words = length-set words 0 new ∙ is.two_words;
-  mark = mark;
-  word_is = get_or-set_same words 0 new 0 (omega (arith, is.two_words)) ∙ agrees;
-  one_mark = one;
-  flagged = flagged;
-  room = room;
-  knows = knows;
-}
+abbrev pub ToldOf : Coming ℕ → ℕ → Pass PlayedRwWriter → Pass PlayedRwWriter → Type 0
+ToldOf way found p q = Told rw_writer_model marked_sees marked_after way (parties_of p) found (counted p) (counted q)
 
--- where no other pass is left, and the flag is down, the word is what the tally comes to
-alone_is : (words : List ℕ) (v : View MarkedHolds) (rest : MarkedHolds) → IsMarkedOrHeld words (both_marked v.tally rest) → (IsWhole v.part → rest ≡ nothing_marked) → SaysAlone v (get_or words 0 0)
-alone_is words v rest is alone only =
-    let down = only.1 in
-    let nobody = subst (λ r. IsMarkedOrHeld words (both_marked v.tally r)) (alone only.0) is in
-    let mine = parts same_nothing tells_same_nothing tt v.tally.held no_holds nobody.knows in
-    let word = nobody.word_is in let flagged = nobody.flagged in omega (arith, word, flagged, down, mine.reads, mine.writes)
+-- where no flag is up, the word is what the holds come to
+word_alone : (w : ℕ) (t : MarkedHolds) → t.flags ≡ 0 → IsMarkedOrHeld w t → w ≡ word_of t
+word_alone w t down is = omega (arith, is.word_is, is.flagged, down)
 
--- the word is marked exactly where there is a mark
-marked_where : (words : List ℕ) (t : MarkedHolds) → (is : IsMarkedOrHeld words t) → is.mark ≡ 1 → IsMarked (get_or words 0 0)
-marked_where words t is one = let word = is.word_is in let both = is.one_mark in let room = is.room in record { odd = omega (arith, word, one, both); unwritten = λ all. absurd (omega (arith, word, one, both, room, all)) }
+-- A step on the lock's word.
+module _ (way : Coming ℕ) (intent : Word → Intent ℕ) (found : ℕ) (p : Pass PlayedRwWriter) (may : TableHas way 0 intent (parties_of p)) where
+  -- the word is what all holds come to, and the mark
+  beside : Share way found p → (rest : MarkedHolds) × (w : ℕ) × IsMarkedOrHeld w (both_marked (counts_of p) rest)
+  beside share = let s = share.beside may.call may.place may.hold may.done may.comes in
+      (share.rest, word_in rw_writer_table s.past Word.State, held_in s.past (both_marked (counts_of p) share.rest) s.law s.says)
 
-pub loads : (v : View MarkedHolds) → Updates nothing_marked both_marked RwWriterAgrees v 0 (λ x. x) (Loaded v)
-loads v = by_look nothing_marked both_marked RwWriterAgrees v 0 (Loaded v) (λ words homes rest is alone fits. (
-  looked v (get_or words 0 0),
-  refl,
-  is,
-  record { saw = refl; alone = alone_is words v rest is alone },
-))
+  module _ (tells : (w : Word) (memory : Word → ℕ) → value_told (carried_out (intent w) memory) ≡ Some (memory w)) where
+    -- and so is what was found
+    found_beside : Share way found p → (rest : MarkedHolds) × IsMarkedOrHeld found (both_marked (counts_of p) rest)
+    found_beside share = let s = share.beside may.call may.place may.hold may.done may.comes in (
+      share.rest,
+      subst (λ n. IsMarkedOrHeld n (both_marked (counts_of p) share.rest)) (sym (found_there _ _ _ _ intent (parties_of p) may Word.State may.named found tells (word_in rw_writer_table s.past) s.found_is))
+          (held_in s.past (both_marked (counts_of p) share.rest) s.law s.says),
+    )
 
--- the flag may go down where the mark is not set
-lowers : (words : List ℕ) (t rest : MarkedHolds) → (is : IsMarkedOrHeld words (both_marked t rest)) → is.mark ≡ 0 → IsMarkedOrHeld words (both_marked (flagged 0 t) rest)
-lowers words t rest is no_mark = record {
-  two_words = is.two_words;
-  mark = is.mark;
-  word_is = is.word_is;
-  one_mark = is.one_mark;
-  flagged = omega (arith, no_mark);
-  room = is.room;
-  knows = is.knows;
-}
+    found_alone : Alone way found p → SaysAlone (counted p) found
+    found_alone went only = let s = went only.0 may.call may.place may.hold may.done may.comes in
+        found_there _ _ _ _ intent (parties_of p) may Word.State may.named found tells (word_in rw_writer_table s.past) s.found_is ∙ word_alone _ (counts_of p) only.1 (held_in s.past (counts_of p) s.law s.says)
 
--- what a writer's sight makes of its pass
-abbrev SeesAgain : List ℕ → View MarkedHolds → MarkedHolds → Sights → Type 0
-SeesAgain words v rest saw = (w : View MarkedHolds) × (w.part ≡ v.part) × IsMarkedOrHeld words (both_marked w.tally rest) × IsSeenByWriter v (get_or words 0 0) saw w
+-- a load by a reader, and by a writer
 
-sees_again : (words : List ℕ) (v : View MarkedHolds) (rest : MarkedHolds) (saw : Sights) → IsMarkedOrHeld words (both_marked v.tally rest) → (IsWhole v.part → rest ≡ nothing_marked) → SeesAgain words v rest saw
-sees_again words v rest saw is alone = dite (ℕ_discrete is.mark 1)
-    (λ one. (
-      view_of v.part saw v.tally,
-      refl,
-      is,
-      record { flags = v.tally.flags; sees = refl; less = omega arith; down = λ not. absurd (not (marked_where words (both_marked v.tally rest) is one)); alone = alone_is words v rest is alone },
-    ))
-    (λ other. (
-      view_of v.part saw (flagged 0 v.tally),
-      refl,
-      lowers words v.tally rest is (no_mark is.mark _ is.one_mark other),
-      record { flags = 0; sees = refl; less = omega arith; down = λ _. refl; alone = alone_is words v rest is alone },
-    ))
-  where
-    no_mark : (mark writes : ℕ) → mark + writes ≤ 1 → mark ≢ 1 → mark ≡ 0
-    no_mark mark writes one other = omega (arith, one, other)
+pub looks : (way : Coming ℕ) (found : ℕ) (p q : Pass PlayedRwWriter) → MayLook rw_writer_model RwWriterPlace.TryReadLook RwWriterPlace.ReadLook way (parties_of p) → IsSamePass p q → ToldOf way found p q → HasSeen found p q
+looks way found p q (inl may) same told = (same, told Call.TryReadLock RwWriterPlace.TryReadLook None may.done may.comes)
+looks way found p q (inr may) same told = (same, told Call.ReadLock (RwWriterPlace.ReadLook may.patience) None may.done may.comes)
 
-pub loads_to_write : (v : View MarkedHolds) → Updates nothing_marked both_marked RwWriterAgrees v 0 (λ x. x) (LoadedToWrite v)
-loads_to_write v = by_look nothing_marked both_marked RwWriterAgrees v 0 (LoadedToWrite v)
-    (λ words homes rest is alone fits. sees_again words v rest (seen v.sights (get_or words 0 0)) is alone)
+pub looks_alone : (way : Coming ℕ) (found : ℕ) (p : Pass PlayedRwWriter) → TableHas way 0 (λ k. Intent.Load k) (parties_of p) → Alone way found p → SaysAlone (counted p) found
+looks_alone way found p may = found_alone way (λ k. Intent.Load k) found p may (λ w memory. refl)
 
-pub readers_in : (v : View MarkedHolds) (old new : ℕ) → old % 2 ≡ 0 → old < 2 ^ 64 - 4 → new ≡ old + 2 → Updates nothing_marked both_marked RwWriterAgrees v 0 (λ x. either (eqb x old) new x) (ReaderIn old v)
-readers_in v old new even room more = by_exchange nothing_marked both_marked RwWriterAgrees v 0 old new (ReaderIn old v)
-    (λ words homes rest is alone fits hit.
-    let word = is.word_is in
-    let step = comes_in same_nothing tells_same_nothing tt (holds_say (both_holds v.tally.held rest.held)) v.tally.held rest.held (locks_of words (both_marked v.tally rest) is) (omega (arith, word, hit, even, room)) in
-    let holds = step.locks.word_is in let fewer = step.locks.room in (
-      wrote v (read v.tally),
-      refl,
-      again words new 0 (both_marked v.tally rest) (both_marked (read v.tally) rest) is (omega (arith, word, is.one_mark, hit, even, room, more, holds, fewer)) (omega (arith, word, is.one_mark, hit, even, room, holds, fewer))
-          (omega arith) (omega (arith, word, hit, even, room, holds, fewer)) step.locks.knows,
-      record {
-        done = λ _. refl;
-        reads = λ _. step.reads;
-        writes = λ _. (step.no_writer, step.still_none);
-        failed = λ miss. absurd (miss hit);
-        alone = alone_is words v rest is alone;
-      },
-    ))
-    (λ words homes rest is alone fits miss. (
-      missed v old (get_or words 0 0),
-      refl,
-      is,
-      record {
-        done = λ hit. absurd (miss hit);
-        reads = λ hit. absurd (miss hit);
-        writes = λ hit. absurd (miss hit);
-        failed = λ _. refl;
-        alone = alone_is words v rest is alone;
-      },
-    ))
+-- An exchange of a value for another.
 
-pub writers_in : (v : View MarkedHolds) (old new : ℕ) → old < 2 → new ≡ 2 ^ 64 - 1 → Updates nothing_marked both_marked RwWriterAgrees v 0 (λ x. either (eqb x old) new x) (WriterIn old v)
-writers_in v old new free all = by_exchange nothing_marked both_marked RwWriterAgrees v 0 old new (WriterIn old v)
-    (λ words homes rest is alone fits hit.
-    let word = is.word_is in
-    let step = takes_over same_nothing tells_same_nothing tt (holds_say (both_holds v.tally.held rest.held)) v.tally.held rest.held (locks_of words (both_marked v.tally rest) is) (omega (arith, word, hit, free)) in
-    let holds = step.locks.word_is in let fewer = step.locks.room in (
-      wrote v (written v.tally),
-      refl,
-      again words new 0 (both_marked v.tally rest) (both_marked (written v.tally) rest) is (omega (arith, all, holds, fewer)) (omega (arith, holds, fewer)) (omega arith) (omega (arith, holds, fewer)) step.locks.knows,
-      record { done = λ _. (step.off, refl); failed = λ miss. absurd (miss hit); alone = alone_is words v rest is alone },
-    ))
-    (λ words homes rest is alone fits miss. let u = sees_again words v rest (seen_instead v.sights old (get_or words 0 0)) is alone in (
-      u.0,
-      u.1,
-      u.2,
-      record { done = λ hit. absurd (miss hit); failed = λ _. u.3; alone = alone_is words v rest is alone },
-    ))
+abbrev Made : Call ℕ → ℕ → ℕ → ℕ → View MarkedHolds → View MarkedHolds → Type 0
+Made call from to found v w = w ≡ view_of v.part (marked_sees (Act.Exchange Word.State from to found (found == from)) v.sights) (marked_after (Act.Exchange Word.State from to found (found == from)) call v.tally)
 
-pub marks_set : (v : View MarkedHolds) (old new : ℕ) → old % 2 ≡ 0 → old ≢ 2 ^ 64 - 2 → new ≡ old + 1 → Updates nothing_marked both_marked RwWriterAgrees v 0 (λ x. either (eqb x old) new x) (SetsMark old v)
-marks_set v old new even other more = by_exchange nothing_marked both_marked RwWriterAgrees v 0 old new (SetsMark old v)
-    (λ words homes rest is alone fits hit. let word = is.word_is in let one = is.one_mark in (
-      wrote v (flagged 1 v.tally),
-      refl,
-      again words new 1 (both_marked v.tally rest) (both_marked (flagged 1 v.tally) rest) is (omega (arith, word, one, hit, even, more)) (omega (arith, word, one, hit, even)) (omega arith) is.room is.knows,
-      record { done = λ _. refl; failed = λ miss. absurd (miss hit) },
-    ))
-    (λ words homes rest is alone fits miss. let u = sees_again words v rest (seen_instead v.sights old (get_or words 0 0)) is alone in (
-      u.0,
-      u.1,
-      u.2,
-      record { done = λ hit. absurd (miss hit); failed = λ _. u.3 },
-    ))
+-- for two more it turned a read hold on
+pub made_read : (call : Call ℕ) (from to found : ℕ) (v w : View MarkedHolds) → to ≡ from + 2 → Made call from to found v w → (found ≡ from → w ≡ wrote v (read v.tally)) × (found ≢ from → w ≡ missed v from found)
+made_read call from to found v w h1 h2 = grind (arith, nat_tests, eqb-true, eqb-false)
 
-pub marks_taken : (v : View MarkedHolds) (old new : ℕ) → IsMarked old → new ≡ old - 1 → Updates nothing_marked both_marked RwWriterAgrees v 0 (λ x. either (eqb x old) new x) (TakesMark old v)
-marks_taken v old new set less = by_exchange nothing_marked both_marked RwWriterAgrees v 0 old new (TakesMark old v)
-    (λ words homes rest is alone fits hit. let word = is.word_is in let one = is.one_mark in let odd = set.odd in let unwritten = set.unwritten in (
-      wrote v (flagged 0 v.tally),
-      refl,
-      again words new 0 (both_marked v.tally rest) (both_marked (flagged 0 v.tally) rest) is (omega (arith, word, one, hit, odd, unwritten, less, fits)) (omega (arith, word, one, hit, odd, unwritten, fits)) (omega arith) is.room is.knows,
-      record { done = λ _. refl; failed = λ miss. absurd (miss hit) },
-    ))
-    (λ words homes rest is alone fits miss. let u = sees_again words v rest (seen_instead v.sights old (get_or words 0 0)) is alone in (
-      u.0,
-      u.1,
-      u.2,
-      record { done = λ hit. absurd (miss hit); failed = λ _. u.3 },
-    ))
+-- for 2 ^ 64 - 1 the write hold
+made_write : (call : Call ℕ) (from to found : ℕ) (v w : View MarkedHolds) → from < 2 → to ≡ 2 ^ 64 - 1 → Made call from to found v w → (found ≡ from → w ≡ wrote v (written v.tally)) × (found ≢ from → Missed from v found w)
+made_write call from to found v w h1 h2 h3 = grind (arith, nat_tests, eqb-true, eqb-false)
 
--- the wake counter
+-- for one more it set the mark
+pub made_mark : (call : Call ℕ) (from to found : ℕ) (v w : View MarkedHolds) → from ≢ 2 ^ 64 - 2 → to ≡ from + 1 → Made call from to found v w → (found ≡ from → w ≡ wrote v (flagged 1 v.tally)) × (found ≢ from → Missed from v found w)
+made_mark call from to found v w h1 h2 h3 = grind (arith, nat_tests, eqb-true, eqb-false)
+
+-- and for one less it took it away
+pub made_unmark : (call : Call ℕ) (from to found : ℕ) (v w : View MarkedHolds) → IsMarked from → to ≡ from - 1 → Made call from to found v w → (found ≡ from → w ≡ wrote v (flagged 0 v.tally)) × (found ≢ from → Missed from v found w)
+made_unmark call from to found v w h1 h2 h3 = grind (arith, nat_tests, eqb-true, eqb-false)
+
+-- beside others a reader comes in where no writer is
+enters_so : (v : View MarkedHolds) (from found : ℕ) (rest : MarkedHolds) → IsOpen from → found ≡ from → IsMarkedOrHeld found (both_marked v.tally rest) → SaysAlone v found → EntersToRead v.part v.tally (read v.tally) from
+enters_so v from found rest h1 h2 h3 h4 = grind (arith, nat_tests, eqb-true, eqb-false)
+
+-- and a writer where nobody is
+writes_so : (w : ℕ) (t rest : MarkedHolds) → IsMarkedOrHeld w (both_marked t rest) → w < 2 → t.held ≡ no_holds
+writes_so w t rest h1 h2 = grind (arith, nat_tests, eqb-true, eqb-false)
+
+module _ (way : Coming ℕ) (from to found : ℕ) (p q : Pass PlayedRwWriter) (may : TableHas way 0 (λ k. Intent.Exchange k from to) (parties_of p)) (told : ToldOf way found p q) where
+  pub exchanges : Made may.call from to found (counted p) (counted q)
+  exchanges = told_so _ _ _ _ (λ k. Intent.Exchange k from to) (parties_of p) may Word.State may.named found marked_sees marked_after (counted p) (counted q) told
+
+  pub exchanges_alone : Alone way found p → SaysAlone (counted p) found
+  exchanges_alone = found_alone way (λ k. Intent.Exchange k from to) found p may (λ w memory. refl)
+
+  module _ (share : Share way found p) where
+    pub writers_in : Alone way found p → from < 2 → to ≡ 2 ^ 64 - 1 → WriterIn from (counted p) found (counted q)
+    writers_in alone free full =
+        let made = made_write may.call from to found (counted p) (counted q) free full exchanges in
+        let all = found_beside way (λ k. Intent.Exchange k from to) found p may (λ w memory. refl) share in
+        record { done = λ hit. (writes_so found (counts_of p) all.0 all.1 (omega (arith, hit, free)), made.0 hit); failed = made.1; alone = exchanges_alone alone }
+
+    -- a read hold is turned on from the value found
+    pub enters : IsOpen from → Alone way found p → found ≡ from → EntersToRead (part_of p) (counts_of p) (read (counts_of p)) from
+    enters room alone hit =
+        let all = found_beside way (λ k. Intent.Exchange k from to) found p may (λ w memory. refl) share in
+        enters_so (counted p) from found all.0 room hit all.1 (exchanges_alone alone)
+
+-- a subtraction of 2, by a pass with a read hold
+
+leaves_so : (p q : Pass PlayedRwWriter) (found : ℕ) (rest : MarkedHolds) → IsSamePass p q → IsMarkedOrHeld found (both_marked (counts_of p) rest) → 0 < reads_of p → counted q ≡ wrote (looked (counted p) found) (no_more_read (counts_of p)) →
+    HasLeftReading p q × ((sights_of q).last ≡ found)
+leaves_so p q found rest h1 h2 h3 h4 = grind (arith, nat_tests, eqb-true, eqb-false)
+
+pub readers_out : (way : Coming ℕ) (found : ℕ) (p q : Pass PlayedRwWriter) → TableHas way 0 (λ k. Intent.Subtract k 2) (parties_of p) → IsSamePass p q → Share way found p → ToldOf way found p q → 0 < reads_of p →
+    HasLeftReading p q × ((sights_of q).last ≡ found)
+readers_out way found p q may same share told some =
+    let all = found_beside way (λ k. Intent.Subtract k 2) found p may (λ w memory. refl) share in
+    leaves_so p q found all.0 same all.1 some (told_so _ _ _ _ (λ k. Intent.Subtract k 2) (parties_of p) may Word.State may.named found marked_sees marked_after (counted p) (counted q) told)
+
+-- a store of 0, by the pass with the write hold
+stores_so : (p q : Pass PlayedRwWriter) (w : ℕ) (rest : MarkedHolds) → IsSamePass p q → IsMarkedOrHeld w (both_marked (counts_of p) rest) → writes_of p ≡ 1 → counted q ≡ wrote (counted p) (no_more_written (counts_of p)) → HasLeftWriting p q
+stores_so p q w rest h1 h2 h3 h4 = grind (arith, nat_tests, eqb-true, eqb-false)
+
+pub writers_out : (way : Coming ℕ) (p q : Pass PlayedRwWriter) → TableHas way 0 (λ k. Intent.Store k 0) (parties_of p) → IsSamePass p q → Share way 0 p → ToldOf way 0 p q → writes_of p ≡ 1 → HasLeftWriting p q
+writers_out way p q may same share told on =
+    let all = beside way (λ k. Intent.Store k 0) 0 p may share in
+    stores_so p q all.1 all.0 same all.2 on (told_so _ _ _ _ (λ k. Intent.Store k 0) (parties_of p) may Word.State may.named 0 marked_sees marked_after (counted p) (counted q) told)
+
+-- Whenever the rule holds.
+
+abbrev Ruled : List ℕ → List (maybe.Option (Unit {0})) → PlayedRwWriter → Type 0
+Ruled = PlaysAndCounts rw_writer_model (Word.State ∷ Word.Counter ∷ []) (λ _ _ _. Unit {0}) AreMarkedIn
+
+word_so : (words : List ℕ) (homes : List (maybe.Option (Unit {0}))) (t : PlayedRwWriter) → Ruled words homes t → IsMarkedOrHeld (get_or words 0 0) t.counts
+word_so words homes t r = subst (λ n. IsMarkedOrHeld n t.counts) (sym (hold_at (Word.State ∷ Word.Counter ∷ []) words 0 Word.State _ r.played.hold refl)) (held_in r.played.past t.counts r.played.law r.follows)
+
+pub grants_are_of_a_run : GrantsAreOfARun
+grants_are_of_a_run s r = record { run = of_a_run rw_writer_model (Word.State ∷ Word.Counter ∷ []) (λ _ _ _. Unit {0}) AreMarkedIn s.words s.homes (all_in s) r.agree; word = word_so s.words s.homes (all_in s) r.agree }
 
 -- beside a write hold the others have none
 pub none_beside : NoHoldBesideTheWriter
@@ -175,7 +151,7 @@ none_beside s r i j v w here there writes some = dite (ℕ_discrete i j) (λ sam
     let two = sum_of_two (none_played nothing_marked) (both_played both_marked) (core_played (λ _. nothing_marked)) (played_add_up nothing_marked both_marked (λ _. nothing_marked) marked_add_up) s.views i j v w here there apart in
     let rest : MarkedHolds = two.0.counts in
     let others : Holds = both_holds w.tally.counts.held rest.held in
-    let all : IsMarkedOrHeld s.words (both_marked v.tally.counts (both_marked w.tally.counts rest)) = subst (λ t. IsMarkedOrHeld s.words t) (ap (λ t. t.counts) two.1) r.agree.agrees in
+    let all : IsMarkedOrHeld (get_or s.words 0 0) (both_marked v.tally.counts (both_marked w.tally.counts rest)) = subst (λ t. IsMarkedOrHeld (get_or s.words 0 0) t) (ap (λ t. t.counts) two.1) (word_so s.words s.homes (all_in s) r.agree) in
     let nobody : others ≡ no_holds = (parts same_nothing tells_same_nothing tt v.tally.counts.held others all.knows).alone writes in
     let theirs = parts same_nothing tells_same_nothing tt w.tally.counts.held rest.held (subst (λ t. Knows tt t) (sym nobody) tt) in
     let reads = ap (λ (t : Holds). read_holds t) nobody in let written = ap (λ (t : Holds). write_holds t) nobody in
@@ -183,25 +159,16 @@ none_beside s r i j v w here there writes some = dite (ℕ_discrete i j) (λ sam
 
 -- where no flag is up there is no mark
 
-abbrev sum_played : List (View PlayedRwWriter) → PlayedRwWriter
-sum_played views = sum_of (none_played nothing_marked) (both_played both_marked) views
-
-no_flag_up : (views : List (View PlayedRwWriter)) → Each (λ v. v.tally.counts.flags ≡ 0) views → (sum_played views).counts.flags ≡ 0
+no_flag_up : (views : List (View PlayedRwWriter)) → Each (λ v. v.tally.counts.flags ≡ 0) views → (sum_of (none_played nothing_marked) (both_played both_marked) views).counts.flags ≡ 0
 no_flag_up [] down = refl
 no_flag_up (v ∷ views) down = let rest = no_flag_up views down.1 in let one = down.0 in omega arith
 
-pub no_mark : NoMarkWithoutAFlag
-no_mark s r down marked = let is = r.agree.agrees in let flags = no_flag_up s.views down in let odd = marked.odd in let unwritten = marked.unwritten in
-    let all = (sum_played s.views).counts in
-    unmarked_word is.mark (read_holds all.held) (write_holds all.held) (get_or s.words 0 0) is.word_is is.one_mark (omega (arith, is.flagged, flags)) (λ on. only_writes tt all.held is.knows on) odd unwritten
-  where
-    unmarked_word : (mark reads writes word : ℕ) → word ≡ 2 * reads + mark + writes * (2 ^ 64 - 1) → mark + writes ≤ 1 → mark ≡ 0 → (writes ≡ 1 → reads ≡ 0) → word % 2 ≡ 1 → word ≢ 2 ^ 64 - 1 → ⊥
-    unmarked_word mark reads writes word is one none_set only odd unwritten = dite (ℕ_discrete writes 1) (λ on. let no_reads = only on in unwritten (omega (arith, is, none_set, no_reads, on))) (λ off. absurd (omega (arith, is, one, none_set, off, odd)))
+unmarked_so : (w : ℕ) (t : MarkedHolds) → IsMarkedOrHeld w t → t.flags ≡ 0 → ¬ IsMarked w
+unmarked_so w t h1 h2 = grind (arith, nat_tests, eqb-true, eqb-false)
 
--- a new lock is free
-pub opens : IsMarkedOrHeld (0 ∷ 0 ∷ []) nothing_marked
-opens = record { two_words = refl; mark = 0; word_is = omega arith; one_mark = omega arith; flagged = omega arith; room = omega arith; knows = tt }
+pub no_mark : NoMarkWithoutAFlag
+no_mark s r down = unmarked_so _ (all_in s).counts (word_so s.words s.homes (all_in s) r.agree) (no_flag_up s.views down)
 
 -- at the end the word is what the pass's holds come to, since its flag is down
-pub closes : (words : List ℕ) (t : MarkedHolds) (found : ℕ) → IsMarkedOrHeld words t → get_or words 0 0 ≡ found → t.flags ≡ 0 → found ≡ word_of t
-closes words t found is here down = let word = is.word_is in let flagged = is.flagged in omega (arith, word, flagged, here, down)
+pub closes : (t : PlayedRwWriter) (found : ℕ) → HasClosed Ruled t 0 found → t.counts.flags ≡ 0 → found ≡ word_of t.counts
+closes t found is down = sym is.here ∙ word_alone _ t.counts down (word_so is.words is.homes t is.rule)

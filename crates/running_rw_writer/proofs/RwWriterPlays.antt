@@ -1,5 +1,5 @@
 -- The steps of a writer-preferring lock are those of its table.
-use Rattle.running_rw_writer.specs.Names.{nat_lt, MatchBool, WaitAction, Word, Call, Answer, HoldKind, Patience, Intent, After, Leaver, RwWriterPlace, rw_writer_intent, rw_writer_grant, is_marked, is_blocked, try_read_look, read_look, spins, marks_or_spins, unmarks_or_leaves, write_look, last_look, released, woken_all, rw_writer_model, Slot, Parties, all_of, IsNamed, IsStepOn, Coming, Going, Beginning, Continuing, Answered, ComesBy, IsHolding, Led, HasCalled, HasEnded, spun, StandsToWait, rw_writer_handed}
+use Rattle.running_rw_writer.specs.Names.{nat_lt, MatchBool, WaitAction, Word, Call, Answer, HoldKind, Patience, Intent, After, Leaver, RwWriterPlace, rw_writer_intent, rw_writer_grant, is_marked, is_blocked, try_read_look, read_look, spins, marks_or_spins, unmarks_or_leaves, write_look, write_refused, last_look, released, woken_all, rw_writer_model, Slot, Parties, all_of, IsNamed, IsStepOn, Coming, Going, Beginning, Continuing, Answered, ComesBy, IsHolding, Led, HasCalled, HasEnded, spun, IsGranted, StandsToWait, rw_writer_handed}
 use Rattle.running_rw_writer.proofs.Names.{eqb-false, eqb-true, ◌≡◌, ◌≢◌, ℕ, ◌+◌, ◌-◌, ◌%◌, ◌^◌, ◌<◌, ◌≤◌, ◌==◌, Bool, true, false, cond, refl, sym, subst, ◌∙◌, List, [], ◌∷◌, Option, Some, None, arith, ne_eqb, eqb_same, is_marking, is_over, inl, inr}
 use Rattle.std.proofs.lemmas.Bool.Decides.{nat_tests}
 use Rattle.model_events.specs.declared.event.Wake.{Wake}
@@ -18,33 +18,16 @@ Ended call answer hold done p = HasEnded rw_writer_model call answer hold done p
 
 -- what the tests of the table say
 
-lt_true : (m n : ℕ) → m < n → nat_lt m n ≡ true
-lt_true m n below = grind (arith, nat_tests)
-
 hit : (m n : ℕ) → m ≡ n → (m == n) ≡ true
 hit m n is = subst (λ k. (k == n) ≡ true) (sym is) (eqb_same n)
 
-marked_word : (w : ℕ) → IsMarked w → is_marked w ≡ true
-marked_word w set = rw (set.odd, ne_eqb w (2 ^ 64 - 1) set.unwritten) refl
-
-unmarked_word : (w : ℕ) → ¬ IsMarked w → is_marked w ≡ false
+pub unmarked_word : (w : ℕ) → ¬ IsMarked w → is_marked w ≡ false
 unmarked_word w h1 = grind (arith, nat_tests, eqb-true, eqb-false)
 
--- an exchange of a `WriteLock` from 0 or 1 takes the write hold; one up or down takes none
+-- an exchange of a `WriteLock` from 0 or 1 takes the write hold
 
 enters : (seen : ℕ) → seen < 2 → rw_writer_grant {T = ℕ} Call.WriteLock seen (2 ^ 64 - 1) ≡ Some HoldKind.Write
 enters seen free = grind (arith, nat_tests)
-
-marks : (seen : ℕ) → rw_writer_grant {T = ℕ} Call.WriteLock seen (seen + 1) ≡ None
-marks seen = rw (is_marking seen (seen + 1) refl) refl
-
--- how a call goes on by a test
-
-when_true : (call : Call ℕ) (b : Bool) (one other : After ℕ RwWriterPlace) (done : List (Slot ℕ)) (p : Parties ℕ) → b ≡ true → CallGoes call (cond b one other) done p → CallGoes call one done p
-when_true call b one other done p is at = subst (λ (c : Bool). CallGoes call (cond c one other) done p) is at
-
-when_false : (call : Call ℕ) (b : Bool) (one other : After ℕ RwWriterPlace) (done : List (Slot ℕ)) (p : Parties ℕ) → b ≡ false → CallGoes call (cond b one other) done p → CallGoes call other done p
-when_false call b one other done p is at = subst (λ (c : Bool). CallGoes call (cond c one other) done p) is at
 
 -- the steps that the table has
 
@@ -53,7 +36,7 @@ has_step : (way : Coming ℕ) (i : ℕ) (intent : Word → Intent ℕ) (call : C
     ComesBy rw_writer_model way call place hold done p → TableHas way i intent p
 has_step way i intent call place hold done p name h1 h2 h3 h4 = grind (arith, nat_tests, eqb-true, eqb-false)
 
-may_look : (way : Coming ℕ) (call : Call ℕ) (place : RwWriterPlace) (done : List (Slot ℕ)) (p : Parties ℕ) → ◌≡◌ {A = Intent ℕ} (rw_writer_intent Word.State Word.Counter place None) (Intent.Load Word.State) →
+pub may_look : (way : Coming ℕ) (call : Call ℕ) (place : RwWriterPlace) (done : List (Slot ℕ)) (p : Parties ℕ) → ◌≡◌ {A = Intent ℕ} (rw_writer_intent Word.State Word.Counter place None) (Intent.Load Word.State) →
     Comes way call place done p → TableHas way 0 (λ w. Intent.Load w) p
 may_look way call place done p intends comes = has_step way 0 (λ w. Intent.Load w) call place None done p Word.State refl intends refl comes
 
@@ -93,6 +76,14 @@ pub may_read : (seen more : ℕ) (p : Parties ℕ) → IsOpen seen → more ≡ 
 may_read seen more p room is (inl at) = may_exchange Going Call.TryReadLock (RwWriterPlace.TryRead seen (seen + 2)) at.0 p seen (seen + 2) more is refl (comes_once seen at.0 p room at.1)
 may_read seen more p room is (inr at) = may_exchange Going Call.ReadLock (RwWriterPlace.Read seen (seen + 2) at.0) at.1 p seen (seen + 2) more is refl (comes_to_read at.0 seen at.1 p room at.2)
 
+pub read_once : (seen found : ℕ) (done : List (Slot ℕ)) (p q : Parties ℕ) → IsOpen seen → CallGoes Call.TryReadLock (try_read_look seen) done p → TableLed Going p found q →
+    MatchBool (found == seen) (Ended Call.TryReadLock Answer.Success (Some HoldKind.Read) done q) (Ended Call.TryReadLock Answer.Interrupted None done q)
+read_once seen found done p q h1 h2 h3 = grind (arith, nat_tests, eqb-true, eqb-false, comes_once)
+
+pub read_goes : (patience : Patience) (seen found : ℕ) (done : List (Slot ℕ)) (p q : Parties ℕ) → IsOpen seen → CallGoes Call.ReadLock (read_look patience seen) done p → TableLed Going p found q →
+    MatchBool (found == seen) (IsGranted rw_writer_model Call.ReadLock RwWriterPlace.ReadLook (Some HoldKind.Read) done q) (CallGoes Call.ReadLock (read_look patience found) done q)
+read_goes patience seen found done p q h1 h2 h3 = grind (arith, nat_tests, eqb-true, eqb-false, comes_to_read)
+
 -- a writer that tries once
 
 pub may_write_once : (p : Parties ℕ) (put : ℕ) → put ≡ 2 ^ 64 - 1 → TableHas (Beginning Call.TryWriteLock) 0 (λ w. Intent.Exchange w 0 put) p
@@ -112,6 +103,15 @@ granted_has call kind done q ended = holding_is rw_writer_model kind done q ende
 
 -- it enters
 
+pub comes_to_enter : (patience : Patience) (seen : ℕ) (done : List (Slot ℕ)) (p : Parties ℕ) → seen < 2 → WriteGoes (write_look patience seen) done p → WriteGoes (After.At (RwWriterPlace.Enter seen patience)) done p
+comes_to_enter patience seen done p h1 h2 = grind (arith, nat_tests, eqb-true, eqb-false)
+
+pub may_enter : (patience : Patience) (seen : ℕ) (done : List (Slot ℕ)) (p : Parties ℕ) → WriteGoes (After.At (RwWriterPlace.Enter seen patience)) done p → (put : ℕ) → put ≡ 2 ^ 64 - 1 → TableHas Going 0 (λ w. Intent.Exchange w seen put) p
+may_enter patience seen done p at put is = may_exchange Going Call.WriteLock (RwWriterPlace.Enter seen patience) done p seen (2 ^ 64 - 1) put is refl at
+
+pub enter_refused : (patience : Patience) (seen : ℕ) (done : List (Slot ℕ)) (p : Parties ℕ) → 2 ≤ seen → WriteGoes (write_look patience seen) done p → WriteGoes (write_refused patience seen) done p
+enter_refused patience seen done p h1 h2 = grind (arith, nat_tests, eqb-true, eqb-false)
+
 enter_so : (patience : Patience) (seen found : ℕ) (done : List (Slot ℕ)) (q : Parties ℕ) → (found == seen) ≡ true → rw_writer_grant {T = ℕ} Call.WriteLock seen (2 ^ 64 - 1) ≡ Some HoldKind.Write →
     Led rw_writer_model Call.WriteLock (RwWriterPlace.Enter seen patience) None found done q → WriteIsGranted done q
 enter_so patience seen found done q test grants led = rw (test, grants) at led
@@ -119,27 +119,47 @@ enter_so patience seen found done q test grants led = rw (test, grants) at led
 pub entered : (patience : Patience) (seen found : ℕ) (done : List (Slot ℕ)) (p q : Parties ℕ) → seen < 2 → found ≡ seen → WriteGoes (After.At (RwWriterPlace.Enter seen patience)) done p → TableLed Going p found q → WriteIsGranted done q
 entered patience seen found done p q free is at went = enter_so patience seen found done q (hit found seen is) (enters seen free) (went Call.WriteLock (RwWriterPlace.Enter seen patience) None done at)
 
+enter_missed_so : (patience : Patience) (seen found : ℕ) (done : List (Slot ℕ)) (q : Parties ℕ) → (found == seen) ≡ false →
+    Led rw_writer_model Call.WriteLock (RwWriterPlace.Enter seen patience) None found done q → WriteGoes (write_refused patience found) done q
+enter_missed_so patience seen found done q test led = rw test at led
+
+pub enter_missed : (patience : Patience) (seen found : ℕ) (done : List (Slot ℕ)) (p q : Parties ℕ) → found ≢ seen → WriteGoes (After.At (RwWriterPlace.Enter seen patience)) done p → TableLed Going p found q → WriteGoes (write_refused patience found) done q
+enter_missed patience seen found done p q miss at went = enter_missed_so patience seen found done q (ne_eqb found seen miss) (went Call.WriteLock (RwWriterPlace.Enter seen patience) None done at)
+
 -- it marks
+
+pub marks_none : (patience : Patience) (seen : ℕ) (done : List (Slot ℕ)) (p : Parties ℕ) → (seen % 2 ≡ 0 → seen ≢ 2 ^ 64 - 2 → ⊥) → WriteGoes (marks_or_spins patience seen) done p → WriteGoes (spins patience) done p
+marks_none patience seen done p h1 h2 = grind (arith, nat_tests, eqb-true, eqb-false)
+
+pub comes_to_mark : (patience : Patience) (seen : ℕ) (done : List (Slot ℕ)) (p : Parties ℕ) → seen % 2 ≡ 0 → seen ≢ 2 ^ 64 - 2 → WriteGoes (marks_or_spins patience seen) done p → WriteGoes (After.At (RwWriterPlace.Mark seen (seen + 1) patience)) done p
+comes_to_mark patience seen done p h1 h2 h3 = grind (arith, nat_tests, eqb-true, eqb-false)
+
+pub may_mark : (patience : Patience) (seen put : ℕ) (done : List (Slot ℕ)) (p : Parties ℕ) → seen % 2 ≡ 0 → seen ≢ 2 ^ 64 - 2 → put ≡ seen + 1 → WriteGoes (marks_or_spins patience seen) done p → TableHas Going 0 (λ w. Intent.Exchange w seen put) p
+may_mark patience seen put done p even other is at = may_exchange Going Call.WriteLock (RwWriterPlace.Mark seen (seen + 1) patience) done p seen (seen + 1) put is refl (comes_to_mark patience seen done p even other at)
 
 pub marked : (patience : Patience) (seen found : ℕ) (done : List (Slot ℕ)) (p q : Parties ℕ) → seen % 2 ≡ 0 → seen ≢ 2 ^ 64 - 2 → found ≡ seen → WriteGoes (marks_or_spins patience seen) done p → TableLed Going p found q → WriteGoes (spins patience) done q
 marked patience seen found done p q h1 h2 h3 h4 h5 = grind (arith, nat_tests, eqb-true, eqb-false)
 
+pub mark_missed : (patience : Patience) (seen found : ℕ) (done : List (Slot ℕ)) (p q : Parties ℕ) → seen % 2 ≡ 0 → seen ≢ 2 ^ 64 - 2 → found ≢ seen → WriteGoes (marks_or_spins patience seen) done p → TableLed Going p found q →
+    WriteGoes (write_look patience found) done q
+mark_missed patience seen found done p q h1 h2 h3 h4 h5 = grind (arith, nat_tests, eqb-true, eqb-false)
+
 -- it spins, and then loads the counter and looks a last time
 
 pub spins_on : (n : ℕ) (done : List (Slot ℕ)) (p : Parties ℕ) → n < 10000 → WriteGoes (spins (spun n)) done p → ComesToWrite Going (spun (n + 1)) done p
-spins_on n done p below at = when_true Call.WriteLock (nat_lt n 10000) (After.At (RwWriterPlace.WriteLook (spun (n + 1)))) (After.At (RwWriterPlace.LoadCounter (spun n))) done p (lt_true n 10000 below) at
+spins_on n done p h1 h2 = grind (arith, nat_tests, eqb-true, eqb-false)
 
 pub all_spun : (n : ℕ) (done : List (Slot ℕ)) (p : Parties ℕ) → n ≡ 10000 → WriteGoes (spins (spun n)) done p → WriteGoes (After.At (RwWriterPlace.LoadCounter (spun 10000))) done p
-all_spun n done p all at = subst (λ (k : ℕ). WriteGoes (spins (spun k)) done p) all at
+all_spun n done p h1 h2 = grind (arith, nat_tests, eqb-true, eqb-false)
 
 pub looked_last : (count found : ℕ) (p q : Parties ℕ) → TableLed Going p found q → (patience : Patience) → GoesFromTo Call.WriteLock (After.At (RwWriterPlace.LastLook count patience)) (last_look count patience found) p q
 looked_last count found p q went patience = λ done at. went Call.WriteLock (RwWriterPlace.LastLook count patience) None done at
 
 pub stands : (count seen : ℕ) (patience : Patience) (done : List (Slot ℕ)) (p : Parties ℕ) → is_blocked seen ≡ true → WriteGoes (last_look count patience seen) done p → WriteGoes (After.Waits (RwWriterPlace.WriteLook patience) count) done p
-stands count seen patience done p blocked at = when_true Call.WriteLock (is_blocked seen) (After.Waits (RwWriterPlace.WriteLook patience) count) (write_look patience seen) done p blocked at
+stands count seen patience done p h1 h2 = grind (arith, nat_tests, eqb-true, eqb-false)
 
 pub goes_on : (count seen : ℕ) (patience : Patience) (done : List (Slot ℕ)) (p : Parties ℕ) → is_blocked seen ≡ false → WriteGoes (last_look count patience seen) done p → WriteGoes (write_look patience seen) done p
-goes_on count seen patience done p free at = when_false Call.WriteLock (is_blocked seen) (After.Waits (RwWriterPlace.WriteLook patience) count) (write_look patience seen) done p free at
+goes_on count seen patience done p h1 h2 = grind (arith, nat_tests, eqb-true, eqb-false)
 
 -- its closure is asked, with the counter
 
@@ -162,11 +182,20 @@ aborted count done p at = record { stood = RwWriterPlace.WriteLook (spun 10000);
 
 -- it gives up
 
-comes_to_unmark : (seen : ℕ) (done : List (Slot ℕ)) (p : Parties ℕ) → IsMarked seen → WriteGoes (unmarks_or_leaves seen) done p → WriteGoes (After.At (RwWriterPlace.Unmark seen (seen - 1))) done p
-comes_to_unmark seen done p set at = when_true Call.WriteLock (is_marked seen) (After.At (RwWriterPlace.Unmark seen (seen - 1))) (After.Ends Answer.Interrupted) done p (marked_word seen set) at
+pub comes_to_unmark : (seen : ℕ) (done : List (Slot ℕ)) (p : Parties ℕ) → IsMarked seen → WriteGoes (unmarks_or_leaves seen) done p → WriteGoes (After.At (RwWriterPlace.Unmark seen (seen - 1))) done p
+comes_to_unmark seen done p h1 h2 = grind (arith, nat_tests, eqb-true, eqb-false)
+
+pub leaves : (seen : ℕ) (done : List (Slot ℕ)) (p : Parties ℕ) → ¬ IsMarked seen → WriteGoes (unmarks_or_leaves seen) done p → WriteGoes (After.Ends Answer.Interrupted) done p
+leaves seen done p h1 h2 = grind (arith, nat_tests, eqb-true, eqb-false)
 
 pub may_unmark : (seen put : ℕ) (done : List (Slot ℕ)) (p : Parties ℕ) → IsMarked seen → put ≡ seen - 1 → WriteGoes (unmarks_or_leaves seen) done p → TableHas Going 0 (λ w. Intent.Exchange w seen put) p
 may_unmark seen put done p set is at = may_exchange Going Call.WriteLock (RwWriterPlace.Unmark seen (seen - 1)) done p seen (seen - 1) put is refl (comes_to_unmark seen done p set at)
+
+pub unmarked : (seen found : ℕ) (p q : Parties ℕ) → IsMarked seen → found ≡ seen → TableLed Going p found q → GoesFromTo Call.WriteLock (unmarks_or_leaves seen) (After.At (RwWriterPlace.Count Leaver.GivenUp)) p q
+unmarked seen found p q h1 h2 h3 = grind (arith, nat_tests, eqb-true, eqb-false)
+
+pub unmark_missed : (seen found : ℕ) (p q : Parties ℕ) → IsMarked seen → found ≢ seen → TableLed Going p found q → GoesFromTo Call.WriteLock (unmarks_or_leaves seen) (unmarks_or_leaves found) p q
+unmark_missed seen found p q h1 h2 h3 = grind (arith, nat_tests, eqb-true, eqb-false)
 
 -- the counter's add, and the wakes
 
@@ -223,7 +252,7 @@ pub unlocking : (kind : HoldKind) (after : After ℕ RwWriterPlace) (p q : Parti
 unlocking kind after p q has goes = record { call = Call.Unlock; done = p.resting; at = goes p.resting (holding_told rw_writer_model kind p has) }
 
 pub last_reader : (found : ℕ) (p q : Parties ℕ) → found ≡ 3 → Unlocks HoldKind.Read (released (Some found)) p q → Unlocks HoldKind.Read (After.At (RwWriterPlace.Count Leaver.Reader)) p q
-last_reader found p q is goes = λ done holding. when_true Call.Unlock (found == 3) (After.At (RwWriterPlace.Count Leaver.Reader)) (After.Ends Answer.Done) done q (hit found 3 is) (goes done holding)
+last_reader found p q is goes = λ done holding. subst (λ n. CallGoes Call.Unlock (released (Some n)) done q) is (goes done holding)
 
 wakes_so : (found : ℕ) (done : List (Slot ℕ)) (q : Parties ℕ) → (found == 3) ≡ true → CallGoes Call.Unlock (After.At (RwWriterPlace.WakeOne Leaver.Reader)) done q → CallGoes Call.Unlock (unlocked HoldKind.Read found) done q
 wakes_so found done q test at = rw test at
@@ -235,7 +264,7 @@ wakes_writer found last p q r is saw goes on = λ done holding. wakes_so last do
 -- another reader is answered
 
 ends_reading : (found : ℕ) (done : List (Slot ℕ)) (q : Parties ℕ) → found ≢ 3 → CallGoes Call.Unlock (released (Some found)) done q → CallGoes Call.Unlock (After.Ends Answer.Done) done q
-ends_reading found done q other at = when_false Call.Unlock (found == 3) (After.At (RwWriterPlace.Count Leaver.Reader)) (After.Ends Answer.Done) done q (ne_eqb found 3 other) at
+ends_reading found done q h1 h2 = grind (arith, nat_tests, eqb-true, eqb-false)
 
 pub other_is_over : (found : ℕ) (p q : Parties ℕ) → found ≢ 3 → has_hold HoldKind.Read p ≡ true → Unlocks HoldKind.Read (released (Some found)) p q → IsOver rw_writer_model q
 other_is_over found p q other has goes = is_over rw_writer_model Call.Unlock Answer.Done None p.resting q (ends_reading found p.resting q other (goes p.resting (holding_told rw_writer_model HoldKind.Read p has)))

@@ -1,39 +1,81 @@
 -- What a writer's sights and tries come to, one after another.
-use Rattle.running_rw_writer.specs.Names.{ℕ_discrete, Sights, View, Pass, IsSamePass, sights_of, seen_instead, counts_of, counted, MarkedHolds}
-use Rattle.running_rw_writer.proofs.Names.{◌≡◌, ◌≢◌, ℕ, ◌+◌, ◌-◌, ◌%◌, ◌^◌, ◌<◌, ◌≤◌, ◌==◌, ◌&&◌, Bool, true, ◌⊎◌, refl, sym, ap, ◌∙◌, arith, eqb_same}
-use Rattle.running_rw_writer.specs.RwWriterShown.{HasTried, HasJustSeen, HasMissedIt}
-use Rattle.running_rw_writer.specs.RwWriterSteps.{PlayedRwWriter, Missed, flagged}
+use Rattle.running_rw_writer.specs.Names.{is_some, MatchBool, Sights, View, Pass, IsSamePass, part_of, sights_of, seen, seen_instead, view_of, counts_of, counted, wrote, MarkedHolds, flagged, lowered, written, read_holds, write_holds, Holds}
+use Rattle.running_rw_writer.proofs.Names.{◌≡◌, ◌≢◌, ℕ, ◌+◌, ◌-◌, ◌%◌, ◌^◌, ◌<◌, ◌==◌, ◌&&◌, not, Bool, true, false, cond, Option, Some, None, refl, sym, ap, subst, ◌∙◌, ◌≤◌, ◌⊎◌, arith, eqb_same}
+use Rattle.std.proofs.lemmas.Bool.{eqb-true, eqb-false}
+use Rattle.std.proofs.lemmas.Bool.Decides.{nat_tests}
+use Rattle.model_rw_writer.specs.Law.{has_mark}
+use Rattle.running_rw_writer.specs.RwWriterShown.{IsAloneWithin, HasTried, HasJustSeen, HasMissedIt, MayGiveUp, HasGivenUpWriting, HasEnteredSeenFree}
+use Rattle.running_rw_writer.specs.RwWriterSteps.{PlayedRwWriter, IsMarked, IsSeenByWriter, Missed, WriterIn}
+use Rattle.running_rw_writer.proofs.RwWriterPlays.{unmarked_word}
+
+-- what a function of the lock's model says of a word, by whether it answers another word
+
+pub not_free : (seen put : ℕ) (entered : Option ℕ) (none : Bool) → (seen < 2 → entered ≡ Some put) → is_some entered ≡ not none → none ≡ true → 2 ≤ seen
+not_free seen put entered none h1 h2 h3 = grind (arith, nat_tests, eqb-true, eqb-false)
+
+pub marks_some : (seen to : ℕ) (answer : Option ℕ) → (seen % 2 ≡ 0 → seen ≢ 2 ^ 64 - 2 → answer ≡ Some (seen + 1)) → (seen % 2 ≡ 1 → answer ≡ None) → (seen ≡ 2 ^ 64 - 2 → answer ≡ None) → answer ≡ Some to →
+    (seen % 2 ≡ 0) × (seen ≢ 2 ^ 64 - 2) × (to ≡ seen + 1)
+marks_some seen to answer h1 h2 h3 h4 = grind (arith, nat_tests, eqb-true, eqb-false)
+
+pub unmarks_some : (seen to : ℕ) (answer : Option ℕ) → (seen % 2 ≡ 1 → seen ≢ 2 ^ 64 - 1 → answer ≡ Some (seen - 1)) → (seen % 2 ≡ 0 → answer ≡ None) → (seen ≡ 2 ^ 64 - 1 → answer ≡ None) → answer ≡ Some to →
+    IsMarked seen × (to ≡ seen - 1)
+unmarks_some seen to answer h1 h2 h3 h4 = grind (arith, nat_tests, eqb-true, eqb-false)
+
+pub unmarks_none : (seen : ℕ) (answer : Option ℕ) → (seen % 2 ≡ 1 → seen ≢ 2 ^ 64 - 1 → answer ≡ Some (seen - 1)) → answer ≡ None → ¬ IsMarked seen
+unmarks_none seen answer h1 h2 = grind (arith, nat_tests, eqb-true, eqb-false)
+
+-- a writer has seen this
+pub sees_it : (p q : Pass PlayedRwWriter) (found : ℕ) (saw : Sights) → saw.count ≡ (sights_of p).count + 1 → saw.last ≡ found → saw.fresh ≡ true → IsSamePass p q → IsSeenByWriter (counted p) found saw (counted q) →
+    HasTried 1 p q × HasJustSeen found q
+sees_it p q found saw h1 h2 h3 h4 h5 = grind (arith, nat_tests, eqb-true, eqb-false)
 
 -- an exchange from the value that a writer had just seen found another
 pub missed_it : (p q : Pass PlayedRwWriter) (seen found : ℕ) → IsSamePass p q → HasJustSeen seen p → Missed seen (counted p) found (counted q) → HasMissedIt found p q
-missed_it p q seen found same just sight =
-    let sights : sights_of q ≡ seen_instead (sights_of p) seen found = ap (λ (v : View MarkedHolds). v.sights) sight.sees in
-    let tally : counts_of q ≡ flagged sight.flags (counts_of p) = ap (λ (v : View MarkedHolds). v.tally) sight.sees in
-    let flags : (counts_of q).flags ≡ sight.flags = ap (λ (t : MarkedHolds). t.flags) tally in
-    let count : (sights_of q).count ≡ (sights_of p).count + 1 = ap (λ (s : Sights). s.count) sights in
-    let missed : (sights_of q).missed ≡ ((sights_of p).fresh && ((sights_of p).last == seen)) = ap (λ (s : Sights). s.missed) sights in record {
-      tried = record {
-        same = same;
-        part = ap (λ (v : View MarkedHolds). v.part) sight.sees;
-        tally = tally ∙ ap (λ (n : ℕ). flagged n (counts_of p)) (sym flags);
-        more = omega (arith, count);
-      };
-      just = record { last = ap (λ (s : Sights). s.last) sights; fresh = ap (λ (s : Sights). s.fresh) sights; down = λ unset. flags ∙ sight.down unset };
-      missed = missed ∙ both_true ((sights_of p).fresh) ((sights_of p).last) seen just.fresh just.last;
-    }
-  where
-    both_true : (fresh : Bool) (last from : ℕ) → fresh ≡ true → last ≡ from → (fresh && (last == from)) ≡ true
-    both_true fresh last from one is = rw (one, is, eqb_same from) refl
+missed_it p q seen found h1 h2 h3 = grind (arith, nat_tests, eqb-true, eqb-false)
+
+-- its exchange put the flag up, or down
+pub set_it : (p q : Pass PlayedRwWriter) (n : ℕ) → IsSamePass p q → counted q ≡ wrote (counted p) (flagged n (counts_of p)) → HasTried 0 p q
+set_it p q n h1 h2 = grind (arith, nat_tests, eqb-true, eqb-false)
+
+pub took_it : (p q : Pass PlayedRwWriter) → IsSamePass p q → MayGiveUp p → counted q ≡ wrote (counted p) (flagged 0 (counts_of p)) → HasGivenUpWriting 0 p q
+took_it p q h1 h2 h3 = grind (arith, nat_tests, eqb-true, eqb-false)
 
 -- tries
 
-pub fewer : (p q : Pass PlayedRwWriter) → HasTried 1 p q → HasTried 0 p q
-fewer p q tried = record { same = tried.same; part = tried.part; tally = tried.tally; more = omega (arith, tried.more) }
+pub unchanged : (p q : Pass PlayedRwWriter) → IsSamePass p q → counted q ≡ counted p → HasTried 0 p q
+unchanged p q h1 h2 = grind (arith, nat_tests, eqb-true, eqb-false)
+
+pub fewest : (n : ℕ) (p q : Pass PlayedRwWriter) → HasTried n p q → HasTried 0 p q
+fewest n p q h1 = grind (arith, nat_tests, eqb-true, eqb-false)
 
 pub tried_again : (m n : ℕ) (p q r : Pass PlayedRwWriter) → HasTried m p q → HasTried n q r → HasTried (m + n) p r
-tried_again m n p q r one two = record {
-  same = (two.same.0 ∙ one.same.0, two.same.1 ∙ one.same.1);
-  part = two.part ∙ one.part;
-  tally = two.tally ∙ ap (λ (t : MarkedHolds). flagged (counts_of r).flags t) one.tally;
-  more = omega (arith, one.more, two.more);
-}
+tried_again m n p q r h1 h2 = grind (arith, nat_tests, eqb-true, eqb-false)
+
+-- its exchange found the value at which it has just seen that nobody holds the lock
+pub entered_now : (p q : Pass PlayedRwWriter) (seen found : ℕ) → HasJustSeen seen p → seen < 2 → found ≡ seen → IsSamePass p q → WriterIn seen (counted p) found (counted q) → HasEnteredSeenFree p q
+entered_now p q seen found h1 h2 h3 h4 h5 = grind (arith, nat_tests, eqb-true, eqb-false)
+
+pub entered_after : (n : ℕ) (p q r : Pass PlayedRwWriter) → HasTried n p q → HasEnteredSeenFree q r → HasEnteredSeenFree p r
+entered_after n p q r h1 h2 = grind (arith, nat_tests, eqb-true, eqb-false)
+
+-- it gives up where it has seen that no mark is set
+pub gives_up : (p q : Pass PlayedRwWriter) (found : ℕ) → HasTried 0 p q → HasJustSeen found q → ¬ IsMarked found → MayGiveUp q → HasGivenUpWriting 0 p q
+gives_up p q found h1 h2 h3 h4 = grind (arith, nat_tests, eqb-true, eqb-false)
+
+pub gave_up_after : (m n : ℕ) (p q r : Pass PlayedRwWriter) → HasTried m p q → HasGivenUpWriting n q r → HasGivenUpWriting (m + n) p r
+gave_up_after m n p q r h1 h2 = grind (arith, nat_tests, eqb-true, eqb-false)
+
+-- nothing was counted after it
+pub gave_up_still : (n : ℕ) (p q r : Pass PlayedRwWriter) → HasGivenUpWriting n p q → IsSamePass q r → counted r ≡ counted q → HasGivenUpWriting n p r
+gave_up_still n p q r h1 h2 h3 = grind (arith, nat_tests, eqb-true, eqb-false)
+
+-- so a whole try ends, whichever way; or it has not ended
+pub ends_after : (m n : ℕ) (p q r : Pass PlayedRwWriter) (entered : Bool) → HasTried m p q → MatchBool entered (HasEnteredSeenFree q r) (HasGivenUpWriting n q r) → MatchBool entered (HasEnteredSeenFree p r) (HasGivenUpWriting (m + n) p r)
+ends_after m n p q r entered h1 h2 = grind (arith, nat_tests, eqb-true, eqb-false)
+
+pub tries_after : (m n : ℕ) (p q r : Pass PlayedRwWriter) (entered : Bool) → HasTried m p q → MatchBool entered (HasEnteredSeenFree q r) (HasTried n q r) → MatchBool entered (HasEnteredSeenFree p r) (HasTried (m + n) p r)
+tries_after m n p q r entered h1 h2 = grind (arith, nat_tests, eqb-true, eqb-false)
+
+-- it is still alone where it has seen that nobody holds the lock
+pub alone_still : (n found : ℕ) (p q : Pass PlayedRwWriter) → HasTried n p q → HasJustSeen found q → found ≡ 0 → IsAloneWithin p → IsAloneWithin q
+alone_still n found p q h1 h2 h3 h4 = grind (arith, nat_tests, eqb-true, eqb-false)

@@ -10,8 +10,8 @@ pub use Rattle.running_passes.specs.declared.pass.Pass.{Pass}
 pub use Rattle.running_passes.specs.declared.view.View.{View}
 pub use Rattle.running_model.specs.Counts.{HasOnlySeen, HasMoved, HasSeen, WasRefused, HasMissed, HasDone}
 pub use Rattle.running_model.specs.Holding.{is_holding, is_kind}
-pub use Rattle.running_model.specs.Passes.{parties_of, counts_of as tally_of, counted, none_played, both_played, PlaysAndCounts, IsOfARun, counts_of, GoesOnCounting, core_played, played_add_up}
-pub use Rattle.running_model.specs.Plays.{Coming, Answered, ComesBy, IsHolding, Leads, HasEnded, MayStep, Went, HasCalled, Going, Beginning, Continuing, IsStepAt, Led}
+pub use Rattle.running_model.specs.Passes.{parties_of, counts_of as tally_of, counted, none_played, both_played, PlaysAndCounts, IsOfARun, counts_of, core_played, played_add_up, IsShare, Told}
+pub use Rattle.running_model.specs.Plays.{WentAlone, Coming, Answered, ComesBy, IsHolding, Leads, HasEnded, MayStep, Went, HasCalled, Going, Beginning, Continuing, IsStepAt, Led}
 pub use Rattle.running_model.specs.Slots.{Slot, Parties, all_of}
 pub use Rattle.running_model.specs.Tries.{spun, IsRefused, IsGranted, MayTry, StandsToWait, IsToWake}
 pub use Rattle.running_model.specs.Words.{IsNamed, IsStepOn}
@@ -32,7 +32,7 @@ pub use Rattle.model_rw_writer.specs.declared.RwWriterPlace.{RwWriterPlace}
 pub use Rattle.running_tallies.specs.Held.{read_holds, write_holds, reader_in, reader_out, Knows, Locks}
 pub use Rattle.running_tallies.specs.HeldTally.{same_nothing, tells_same_nothing}
 pub use Rattle.running_tallies.specs.RwReaderRule.{no_holds, Holds, both_holds}
-pub use Rattle.running_tallies.specs.RwWriterRule.{marked, nothing_marked, both_marked, RwWriterAgrees, AreGrantsByKindIn, IsMarkedOrHeld}
+pub use Rattle.running_tallies.specs.RwWriterRule.{nothing_marked, both_marked, read, no_more_read, written, no_more_written, flagged, lowered, marked_sees, marked_after, marked_needed, AreMarkedIn, IsMarkedOrHeld}
 pub use Rattle.running_tallies.specs.RwWriterScript.{rw_writer_model, rw_writer_handed}
 pub use Rattle.running_tallies.specs.declared.rw_writer.MarkedHolds.{MarkedHolds}
 pub use mathlib.Core.Logic.{dite}

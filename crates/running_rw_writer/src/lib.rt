@@ -11,7 +11,6 @@ ghost use Rattle.std.specs.Prelude.{◌≡◌};
 ghost use Rattle.running_model.specs.Stages.{count_of};
 ghost use Rattle.running_rw_writer.specs.RwWriterSteps.{GrantsAreOfARun, NoHoldBesideTheWriter, NoMarkWithoutAFlag};
 
-mod deeds;
 mod pass;
 mod reading;
 mod shares;
@@ -61,7 +60,6 @@ impl<A: Allocator> RwLockWriterPreference<A> {
     ghost use Rattle.running_rw_writer.specs.RwWriterShown.{IsRwWriterPass, IsAlone, IsShut, pass_in, known_by, part_in, sights_in, HasEnteredToRead, HasEnteredToWrite, HasReadAtOnce, HasWrittenAtOnce, HasSeenTaken, HasGivenUpWriting, HasUnlocked, WasTurnedAway, HasPlayed, HasPlayedGivingUp, HasPlayedUnlock};
 
     /// A lock that is free, and the pass that is whole. `Err` where there was no memory; then nothing was made.
-    #[tactic(auto, using(crate::proofs::RwWriterKeeps::opens))]
     pub fn new(alloc: A) -> Result<(RwLockWriterPreference<A>, RwWriterPass), AllocError>
         ensures own { IfOk result (λ made. IsRwWriterPass made.0 made.1) }
         ensures first { IfOk result (λ made. known_by made.1 ≡ first_view (played no_parties nothing_marked)) }
@@ -233,8 +231,9 @@ pub fn no_mark_without_a_flag()
     ensures { NoMarkWithoutAFlag }
 {}
 
-/// Whenever the rule of a writer-preferring lock holds, its passes are the parties of a run of the model, and all together were granted as
-/// many holds of each kind as calls were in it. Says so of the rule alone, and does nothing.
+/// Whenever the rule of a writer-preferring lock holds, its passes are the parties of a run of the model, and all together have the holds that
+/// stand after it, and were granted as many of each kind as calls were in it. The word is what these come to, and the mark. Says so of the
+/// rule alone, and does nothing.
 pub fn grants_are_of_a_run()
     ensures { GrantsAreOfARun }
 {}

@@ -1,7 +1,6 @@
 //! What calls of a writer-preferring lock do for a reader.
 ghost use Rattle.std.specs.Prelude.{◌≡◌, ◌+◌, ◌<◌};
 
-use crate::deeds::{ComeToRead, Look};
 use crate::steps::PlayedPass;
 use crate::{LOCK, RwLockWriterPreference, RwWriterPass};
 use model_rw_writer::{RwWriterPlace, reader_enters};
@@ -28,7 +27,8 @@ impl<A: Allocator> ReadSteps<RwWriterScript, RwWriterPlace, MarkedHolds>
     ghost use Rattle.model_rw_writer.specs.declared.RwWriterPlace.TheVariants as places;
     ghost use Rattle.running_model.specs.Stages.{id_of};
     ghost use Rattle.running_tallies.specs.Held.{read_holds, write_holds};
-    ghost use Rattle.running_rw_writer.specs.RwWriterSteps.{IsOnly, read, word_of as held_word};
+    ghost use Rattle.running_tallies.specs.RwWriterRule.{read};
+    ghost use Rattle.running_rw_writer.specs.RwWriterSteps.{IsOnly, word_of as held_word};
     ghost use Rattle.running_rw_writer.specs.RwWriterShown.{IsOpen, IsShut, EntersToRead};
 
     ghost object = { λ l. id_of l.stage };
@@ -74,7 +74,7 @@ impl<A: Allocator> ReadSteps<RwWriterScript, RwWriterPlace, MarkedHolds>
         ensures same_borrow { result.1.pass.ghost_name ≡ turn.entry.pass.ghost_name }
         ensures looked { HasLookedAt rw_writer_model places.TryReadLook places.ReadLook IsOnly held_word W.coming result.0 turn.entry.pass.now result.1.pass.now }
     {
-        turn.load_by::<(), A, Look>(&self.stage, LOCK)
+        turn.load(&self.stage, LOCK)
     }
 
     #[inline(always)]
@@ -90,7 +90,7 @@ impl<A: Allocator> ReadSteps<RwWriterScript, RwWriterPlace, MarkedHolds>
         ensures same_borrow { result.1.pass.ghost_name ≡ turn.entry.pass.ghost_name }
         ensures tried { HasTriedToEnter rw_writer_model places.TryReadLook places.ReadLook IsOnly held_word read EntersToRead seen result.0 turn.entry.pass.now result.1.pass.now }
     {
-        turn.exchange_by::<(), A, ComeToRead>(&self.stage, LOCK, seen, more)
+        turn.exchange(&self.stage, LOCK, seen, more)
     }
 
     #[inline(always)]

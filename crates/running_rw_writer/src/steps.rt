@@ -1,9 +1,6 @@
 //! Each atomic step of a writer-preferring lock, and the calls of its wake closures.
 ghost use Rattle.std.specs.Prelude.{◌≡◌, ◌-◌, ◌^◌};
 
-use crate::deeds::{
-    ComeToWrite, Count, LeaveReading, LeaveWriting, LookToWrite, SetMark, TakeMark,
-};
 use crate::{COUNTER, LOCK, RwLockWriterPreference};
 use model_rw_writer::writer_enters;
 use running_model::Sealed;
@@ -37,7 +34,7 @@ impl<A: Allocator> RwLockWriterPreference<A> {
     ghost use Rattle.running_model.specs.Stages.{IsPassOf, id_of};
     ghost use Rattle.running_tallies.specs.Shown.{object_shown, index_shown};
     ghost use Rattle.running_rw_writer.specs.RwWriterParties.{has_hold, TableHas, TableLed, SomeCallGoes, GoesFromTo, WriteGoes, ComesToWrite, IsToWakeBoth, Unlocks};
-    ghost use Rattle.running_rw_writer.specs.RwWriterSteps.{IsMarked, SaysAlone, WriterIn, Unchanged, read};
+    ghost use Rattle.running_rw_writer.specs.RwWriterSteps.{IsMarked, SaysAlone, WriterIn, Unchanged};
     ghost use Rattle.running_rw_writer.specs.RwWriterShown.{reads_of, writes_of, HasTried, HasJustSeen, HasMissedIt, MayGiveUp, HasGivenUpWriting, HasLeftReading, HasLeftWriting};
 
     /// A subtraction of 2, by a pass that has a read hold, and the value that it found.
@@ -54,7 +51,7 @@ impl<A: Allocator> RwLockWriterPreference<A> {
         ensures played { Unlocks kinds.Read (released (Some result.0)) (parties_of turn.entry.pass.now) (parties_of result.1.pass.now) }
         ensures saw { (sights_of result.1.pass.now).last ≡ result.0 }
     {
-        turn.subtract_by::<(), A, LeaveReading>(&self.stage, LOCK, 2)
+        turn.subtract(&self.stage, LOCK, 2)
     }
 
     /// A load by a writer.
@@ -71,7 +68,7 @@ impl<A: Allocator> RwLockWriterPreference<A> {
         ensures alone { SaysAlone (counted turn.entry.pass.now) result.0 }
         ensures looked { (patience : Patience) (done : List (Slot ℕ)) → ComesToWrite W.coming patience done (parties_of turn.entry.pass.now) → WriteGoes (write_look patience result.0) done (parties_of result.1.pass.now) }
     {
-        turn.load_by::<(), A, LookToWrite>(&self.stage, LOCK)
+        turn.load(&self.stage, LOCK)
     }
 
     /// The last load by a writer before it stands: it has loaded the counter just before, and found this.
@@ -90,7 +87,7 @@ impl<A: Allocator> RwLockWriterPreference<A> {
         ensures looked { (patience : Patience) → GoesFromTo calls.WriteLock (afters.At (places.LastLook count patience)) (last_look count patience result.0) (parties_of turn.entry.pass.now) (parties_of result.1.pass.now) }
     {
         let _count = count;
-        turn.load_by::<(), A, LookToWrite>(&self.stage, LOCK)
+        turn.load(&self.stage, LOCK)
     }
 
     /// An exchange of a value at which nobody holds the lock for 2^64 - 1, and the value that it found.
@@ -108,7 +105,7 @@ impl<A: Allocator> RwLockWriterPreference<A> {
         ensures told { WriterIn seen (counted turn.entry.pass.now) result.0 (counted result.1.pass.now) }
         ensures went { TableLed W.coming (parties_of turn.entry.pass.now) result.0 (parties_of result.1.pass.now) }
     {
-        turn.exchange_by::<(), A, ComeToWrite>(&self.stage, LOCK, seen, write_locked())
+        turn.exchange(&self.stage, LOCK, seen, write_locked())
     }
 
     /// A store of 0, by the pass that has the write hold.
@@ -124,7 +121,7 @@ impl<A: Allocator> RwLockWriterPreference<A> {
         ensures released { HasLeftWriting turn.entry.pass.now result.pass.now }
         ensures played { Unlocks kinds.Write (afters.At (places.Count leavers.Writer)) (parties_of turn.entry.pass.now) (parties_of result.pass.now) }
     {
-        turn.store_by::<(), A, LeaveWriting>(&self.stage, LOCK, 0)
+        turn.store(&self.stage, LOCK, 0)
     }
 
     /// An exchange of the value just seen for one more. `Err` with another value that it found.
@@ -148,7 +145,7 @@ impl<A: Allocator> RwLockWriterPreference<A> {
         ensures done { IfOk result (λ next. HasTried 0 turn.entry.pass.now next.pass.now) }
         ensures missed { IfErr result (λ missed. HasMissedIt missed.0 turn.entry.pass.now missed.1.pass.now) }
     {
-        let (found, next) = turn.exchange_by::<(), A, SetMark>(&self.stage, LOCK, seen, marked);
+        let (found, next) = turn.exchange(&self.stage, LOCK, seen, marked);
         if found == seen {
             Ok(next)
         } else {
@@ -177,7 +174,7 @@ impl<A: Allocator> RwLockWriterPreference<A> {
         ensures done { IfOk result (λ next. HasGivenUpWriting 0 turn.entry.pass.now next.pass.now) }
         ensures missed { IfErr result (λ missed. HasMissedIt missed.0 turn.entry.pass.now missed.1.pass.now) }
     {
-        let (found, next) = turn.exchange_by::<(), A, TakeMark>(&self.stage, LOCK, seen, unmarked);
+        let (found, next) = turn.exchange(&self.stage, LOCK, seen, unmarked);
         if found == seen {
             Ok(next)
         } else {
@@ -198,7 +195,7 @@ impl<A: Allocator> RwLockWriterPreference<A> {
         ensures same { IsSamePass turn.entry.pass.now result.1.pass.now }
         ensures unchanged { Unchanged (counted turn.entry.pass.now) (counted result.1.pass.now) }
     {
-        turn.load_by::<(), A, Count>(&self.stage, COUNTER)
+        turn.load(&self.stage, COUNTER)
     }
 
     /// An add of 1 to the counter.
@@ -214,7 +211,7 @@ impl<A: Allocator> RwLockWriterPreference<A> {
         ensures same { IsSamePass turn.entry.pass.now result.pass.now }
         ensures unchanged { Unchanged (counted turn.entry.pass.now) (counted result.pass.now) }
     {
-        let (_, next) = turn.add_by::<(), A, Count>(&self.stage, COUNTER, 1);
+        let (_, next) = turn.add(&self.stage, COUNTER, 1);
         next
     }
 

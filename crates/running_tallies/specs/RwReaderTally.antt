@@ -24,7 +24,7 @@ module _ {V P : Type 0} (t : Table V P) where
 
 -- The word counts the holds of the run, and so those of the passes.
 
-knows_nothing : (t : Holds) → (read_holds t ≡ 1 → write_holds t ≡ 1 → ⊥) → Knows tt t
+pub knows_nothing : (t : Holds) → (read_holds t ≡ 1 → write_holds t ≡ 1 → ⊥) → Knows tt t
 knows_nothing Free one_kind = tt
 knows_nothing (Reading n x) one_kind = refl
 knows_nothing (Writing x y) one_kind = refl

@@ -1,27 +1,119 @@
--- What the passes of a writer-preferring lock count adds up, and acts on no word grant nothing.
-use Rattle.std.proofs.Common.{ℕ, ◌+◌, ◌≡◌, refl, arith}
-use Rattle.running_tallies.specs.Names.{HoldKind, Table, StaysOnNoWord, same_grants, IsTally}
+-- What the passes of a writer-preferring lock count adds up, and follows the run.
+use Rattle.std.proofs.Common.{ℕ, ◌+◌, ◌*◌, ◌-◌, ◌%◌, ◌^◌, ◌<◌, ◌≤◌, ◌≡◌, ◌≢◌, ◌==◌, Bool, true, false, is_some, refl, sym, ap, subst, ◌∙◌, List, [], ◌∷◌, Option, Some, inl, inr, arith}
+use Rattle.std.proofs.lemmas.Bool.{eqb-true, eqb-false}
+use Rattle.std.proofs.lemmas.Bool.Decides.{nat_tests}
+use Rattle.model_events.specs.Past.{word_in, word_after, hold_of}
+use Rattle.model_events.specs.Rows.{carried_out}
+use Rattle.model_events.specs.declared.row.Intent.{Intent}
+use Rattle.model_rw_writer.specs.Law.{CountsHolds, KeepsRwWriter}
+use Rattle.model_rw_writer.specs.Marks.{is_marked_after, setter_of, setter_after}
+use Rattle.model_rw_writer.specs.Table.{rw_writer_table}
+use Rattle.model_rw_writer.proofs.WordLaws.{IsExchange, IsWriterIntent}
+use Rattle.model_rw_writer.proofs.PlaceLaws.{writer_intent, here}
+use Rattle.running_tallies.specs.Names.{Word, Call, Act, Event, HoldKind, Hold, PendingCall, call_of, holds_of, reads_in, writes_in, u64_arithmetic, IsTally, StaysOnNoWord, GoesOnByActs, IsOnNoWord, on_no_word, grants_by, same_grants, next_grants}
+use Rattle.running_tallies.specs.Held.{read_holds, write_holds, Knows, Locks}
 use Rattle.running_tallies.specs.HeldTally.{same_nothing, tells_same_nothing, held_adds_up}
+use Rattle.running_tallies.specs.HeldKeeps.{comes_in, goes_out, takes_over, steps_down}
 use Rattle.running_tallies.specs.RwReaderRule.{Holds, no_holds, both_holds}
-use Rattle.running_tallies.specs.RwWriterRule.{marked, nothing_marked, both_marked, AreGrantsByKindIn}
+use Rattle.running_tallies.specs.RwReaderTally.{holds_stay, knows_nothing}
+use Rattle.running_tallies.specs.RwWriterScript.{rw_writer_model, rw_writer_lawful}
+use Rattle.running_tallies.specs.declared.rw_writer.MarkedHolds.{MarkedHolds}
+use Rattle.running_tallies.specs.RwWriterRule.{marked, nothing_marked, both_marked, read, no_more_read, written, no_more_written, flagged, lowered, marked_after, marked_needed, AreMarkedIn, IsMarkedOrHeld}
 
 same_marked : (t u : Holds) (a b c d e f : ℕ) → t ≡ u → a ≡ b → c ≡ d → e ≡ f → marked t a c e ≡ marked u b d f
 same_marked t u a b c d e f held flags reads writes = λ i. marked (held i) (flags i) (reads i) (writes i)
 
 pub marked_add_up : IsTally nothing_marked both_marked (λ _. nothing_marked)
 marked_add_up = let holds = held_adds_up same_nothing tells_same_nothing in record {
-  unit = λ t. same_marked (both_holds no_holds t.held) t.held (0 + t.flags) t.flags (0 + t.read_grants) t.read_grants (0 + t.write_grants) t.write_grants refl (omega arith) (omega arith) (omega arith);
-  swap = λ t u. same_marked (both_holds t.held u.held) (both_holds u.held t.held) (t.flags + u.flags) (u.flags + t.flags)
-      (t.read_grants + u.read_grants) (u.read_grants + t.read_grants) (t.write_grants + u.write_grants) (u.write_grants + t.write_grants)
-      (holds.swap t.held u.held) (omega arith) (omega arith) (omega arith);
-  group = λ t u v. same_marked (both_holds (both_holds t.held u.held) v.held) (both_holds t.held (both_holds u.held v.held)) (t.flags + u.flags + v.flags) (t.flags + (u.flags + v.flags))
-      (t.read_grants + u.read_grants + v.read_grants) (t.read_grants + (u.read_grants + v.read_grants)) (t.write_grants + u.write_grants + v.write_grants) (t.write_grants + (u.write_grants + v.write_grants))
-      (holds.group t.held u.held v.held) (omega arith) (omega arith) (omega arith);
-  copy = λ t. same_marked (both_holds no_holds t.held) t.held (0 + t.flags) t.flags (0 + t.read_grants) t.read_grants (0 + t.write_grants) t.write_grants refl (omega arith) (omega arith) (omega arith);
+  unit = λ t. same_marked _ t.held _ t.flags _ t.read_grants _ t.write_grants refl (omega arith) (omega arith) (omega arith);
+  swap = λ t u. same_marked _ _ _ _ _ _ _ _ (holds.swap t.held u.held) (omega arith) (omega arith) (omega arith);
+  group = λ t u v. same_marked _ _ _ _ _ _ _ _ (holds.group t.held u.held v.held) (omega arith) (omega arith) (omega arith);
+  copy = λ t. same_marked _ t.held _ t.flags _ t.read_grants _ t.write_grants refl (omega arith) (omega arith) (omega arith);
 }
 
-pub grants_by_kind_stay : {V P : Type 0} (t : Table V P) → StaysOnNoWord (AreGrantsByKindIn t)
-grants_by_kind_stay t past e counts quiet is = record {
-  reads = same_grants t HoldKind.Read past e counts.read_grants quiet is.reads;
-  writes = same_grants t HoldKind.Write past e counts.write_grants quiet is.writes;
+quiet_mark : (past : List (Event ℕ)) (e : Event ℕ) → IsOnNoWord e.act → is_marked_after (e ∷ past) ≡ is_marked_after past
+quiet_mark past e = on_no_word (λ act. is_some (setter_after e.party act (call_of e.party past) (setter_of past)) ≡ is_some (setter_of past)) (λ call. refl) (λ action. refl) (λ choice. refl) (λ wake. refl) refl (λ value. refl) e.act
+
+pub marks_stay : StaysOnNoWord AreMarkedIn
+marks_stay past e counts quiet is = record {
+  holds = holds_stay rw_writer_table past e counts.held quiet is.holds;
+  flagged = λ set. is.flagged (sym (quiet_mark past e quiet) ∙ set);
+  reads = same_grants rw_writer_table HoldKind.Read past e counts.read_grants quiet is.reads;
+  writes = same_grants rw_writer_table HoldKind.Write past e counts.write_grants quiet is.writes;
 }
+
+pub marks_open : AreMarkedIn [] nothing_marked
+marks_open = record { holds = record { reads = refl; writes = refl }; flagged = λ set. absurd cc; reads = refl; writes = refl }
+
+-- The word counts the holds of the run and the mark, and so those of the passes.
+
+held_so : (w : ℕ) (hs : List Hold) (set : Bool) (t : MarkedHolds) → CountsHolds w hs set → read_holds t.held ≡ reads_in hs → write_holds t.held ≡ writes_in hs → (set ≡ true → 0 < t.flags) → IsMarkedOrHeld w t
+held_so w hs set t h1 h2 h3 h4 = grind (arith, nat_tests, eqb-true, eqb-false)
+
+-- of a run that keeps the lock's law
+pub held_in : (past : List (Event ℕ)) (t : MarkedHolds) → KeepsRwWriter past → AreMarkedIn past t → IsMarkedOrHeld (word_in rw_writer_table past Word.State) t
+held_in past t law is = held_so (word_in rw_writer_table past Word.State) (holds_of rw_writer_table past) (is_marked_after past) t law.law.counts is.holds.reads is.holds.writes is.flagged
+
+counted_so : (w : ℕ) (hs : List Hold) (set : Bool) (t : MarkedHolds) → CountsHolds w hs set → IsMarkedOrHeld w t → (read_holds t.held ≡ reads_in hs) × (write_holds t.held ≡ writes_in hs) × (set ≡ true → 0 < t.flags)
+counted_so w hs set t h1 h2 = grind (arith, nat_tests, eqb-true, eqb-false)
+
+-- After each step it is again what they come to.
+
+-- what all passes but one count, and that one by an act on a word that was w
+abbrev MarkedAfter : Act ℕ → Call ℕ → ℕ → MarkedHolds → MarkedHolds → Type 0
+MarkedAfter act call w t rest = IsMarkedOrHeld (word_after Word.State act w) (both_marked (marked_after act call t) rest)
+
+reads_on : (w : ℕ) (t rest : MarkedHolds) → IsMarkedOrHeld w (both_marked t rest) → w % 2 ≡ 0 → w < 2 ^ 64 - 4 → IsMarkedOrHeld (w + 2) (both_marked (read t) rest)
+reads_on w t rest h1 h2 h3 = grind (arith, nat_tests, eqb-true, eqb-false)
+
+writes_on : (w : ℕ) (t rest : MarkedHolds) → IsMarkedOrHeld w (both_marked t rest) → w < 2 → IsMarkedOrHeld (2 ^ 64 - 1) (both_marked (written t) rest)
+writes_on w t rest h1 h2 = grind (arith, nat_tests, eqb-true, eqb-false)
+
+sets : (w : ℕ) (t rest : MarkedHolds) → IsMarkedOrHeld w (both_marked t rest) → w % 2 ≡ 0 → IsMarkedOrHeld (w + 1) (both_marked (flagged 1 t) rest)
+sets w t rest h1 h2 = grind (arith, nat_tests, eqb-true, eqb-false)
+
+takes : (w to : ℕ) (t rest : MarkedHolds) → IsMarkedOrHeld w (both_marked t rest) → w % 2 ≡ 1 → w ≢ 2 ^ 64 - 1 → w ≡ to + 1 → IsMarkedOrHeld to (both_marked (flagged 0 t) rest)
+takes w to t rest h1 h2 h3 h4 = grind (arith, nat_tests, eqb-true, eqb-false)
+
+sees_again : (w : ℕ) (t rest : MarkedHolds) → IsMarkedOrHeld w (both_marked t rest) → IsMarkedOrHeld w (both_marked (lowered w t) rest)
+sees_again w t rest h1 = grind (arith, nat_tests, eqb-true, eqb-false)
+
+reads_off : (w : ℕ) (t rest : MarkedHolds) → IsMarkedOrHeld w (both_marked t rest) → 0 < read_holds t.held → IsMarkedOrHeld ((w + (2 ^ 64 - 2)) % 2 ^ 64) (both_marked (no_more_read t) rest)
+reads_off w t rest h1 h2 = grind (arith, nat_tests, eqb-true, eqb-false)
+
+writes_off : (w : ℕ) (t rest : MarkedHolds) → IsMarkedOrHeld w (both_marked t rest) → write_holds t.held ≡ 1 → IsMarkedOrHeld 0 (both_marked (no_more_written t) rest)
+writes_off w t rest h1 h2 = grind (arith, nat_tests, eqb-true, eqb-false)
+
+exchanges : (call by : Call ℕ) (from to w : ℕ) (t rest : MarkedHolds) → IsExchange by from to → IsMarkedOrHeld w (both_marked t rest) → MarkedAfter (Act.Exchange Word.State from to w (w == from)) call w t rest
+exchanges call by from to w t rest h1 h2 = grind (arith, nat_tests, eqb-true, eqb-false, reads_on, writes_on, sets, takes, sees_again)
+
+goes : (intent : Intent ℕ) (c : PendingCall ℕ) (hold : Option HoldKind) (call : Call ℕ) (memory : Word → ℕ) (t rest : MarkedHolds) → IsWriterIntent c.call hold intent → IsMarkedOrHeld (memory Word.State) (both_marked t rest) →
+    marked_needed (carried_out intent memory) t → MarkedAfter (carried_out intent memory) call (memory Word.State) t rest
+goes (Intent.Exchange Word.State from to) c hold call memory t rest may is has = exchanges call c.call from to (memory Word.State) t rest may.1 is
+goes (Intent.Subtract Word.State less) c hold call memory t rest may is has = rw may.0 (reads_off (memory Word.State) t rest is has)
+goes (Intent.Store Word.State put) c hold call memory t rest may is has = rw may.0 (writes_off (memory Word.State) t rest is has)
+goes (Intent.Swap Word.State put) c hold call memory t rest may is has = absurd may
+goes (Intent.Add Word.State more) c hold call memory t rest may is has = absurd may
+goes (Intent.Load Word.State) c hold Call.WriteLock memory t rest may is has = sees_again (memory Word.State) t rest is
+goes other c hold call memory t rest may is has = is
+
+-- and grants are counted as they are made
+grants_more : (intent : Intent ℕ) (c : PendingCall ℕ) (hold : Option HoldKind) (call : Call ℕ) (memory : Word → ℕ) (t : MarkedHolds) (act : Act ℕ) (k : Option (PendingCall ℕ)) → IsWriterIntent c.call hold intent → act ≡ carried_out intent memory → k ≡ Some c →
+    ((marked_after act call t).read_grants ≡ grants_by rw_writer_table HoldKind.Read act k + t.read_grants) × ((marked_after act call t).write_grants ≡ grants_by rw_writer_table HoldKind.Write act k + t.write_grants)
+grants_more intent c hold call memory t act k h1 h2 h3 = grind (arith, nat_tests, eqb-true, eqb-false)
+
+pub marks_go_on : GoesOnByActs rw_writer_model both_marked AreMarkedIn marked_after marked_needed
+marks_go_on call place hold past e found step t rest has is =
+    let act = step.act ∙ step.found_is in
+    let intent : Intent ℕ = rw_writer_table.intent place hold in
+    let memory = word_in rw_writer_table past in
+    let at = subst (λ h. IsWriterIntent step.pending.call h (rw_writer_table.intent place h)) step.has (writer_intent place step.pending (hold_of rw_writer_table e.party past) (here u64_arithmetic step.parties past step.run.1 e.party step.pending place step.under_way step.stage)) in
+    let left = subst (λ (a : Act ℕ). MarkedAfter a call (memory Word.State) t rest) (sym act) (goes intent step.pending hold call memory t rest at (held_in past (both_marked t rest) step.law is) (subst (λ (a : Act ℕ). marked_needed a t) act has)) in
+    let both = counted_so (word_in rw_writer_table (e ∷ past) Word.State) (holds_of rw_writer_table (e ∷ past)) (is_marked_after (e ∷ past)) (both_marked (marked_after e.act call t) rest) (rw_writer_lawful step.parties (e ∷ past) step.run).law.counts left in
+    let more = grants_more intent step.pending hold call memory t e.act (call_of e.party past) at act step.under_way in
+    record {
+      holds = record { reads = both.0; writes = both.1 };
+      flagged = both.2;
+      reads = next_grants rw_writer_table HoldKind.Read past e t.read_grants (marked_after e.act call t).read_grants rest.read_grants more.0 is.reads;
+      writes = next_grants rw_writer_table HoldKind.Write past e t.write_grants (marked_after e.act call t).write_grants rest.write_grants more.1 is.writes;
+    }

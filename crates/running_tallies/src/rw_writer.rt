@@ -2,7 +2,7 @@
 
 use crate::held::Held;
 use model_rw_writer::RwWriterPlace;
-use running_model::{Counts, Played, Script};
+use running_model::{Counts, CountsByActs, Played, Script};
 use running_passes::{Rule, Tally};
 
 /// The model that a writer-preferring lock plays: its words are the lock's and the wake counter.
@@ -53,26 +53,39 @@ impl Tally for MarkedHolds {
     ghost adds_up = { marked_add_up };
 }
 
-/// The lock's word is twice the number of read holds of all passes, 2^63 - 2 at most, plus a mark of 0 or 1; or it is 2^64 - 1, with one
-/// write hold and no other. Where the mark is 1, some pass has its flag up. Of the second word, the wake counter, it says nothing.
+/// The run alone says what all passes count.
 impl Rule<(), ()> for MarkedHolds {
-    ghost use Rattle.running_tallies.specs.RwWriterRule.{nothing_marked, RwWriterAgrees};
+    ghost use Rattle.running_tallies.specs.RwWriterRule.{nothing_marked};
 
     ghost first = { λ _. nothing_marked };
 
-    ghost agrees = { λ _. RwWriterAgrees };
+    ghost agrees = { λ _ _ _ _. Unit {0} };
 }
 
-/// All passes together were granted holds of each kind as often as calls were in the run.
+/// All passes together have as many holds of each kind as stand after the run, and were granted as many as calls were in it. Where the mark
+/// is set, some pass has its flag up.
 impl Counts<(), u64> for MarkedHolds {
-    ghost use Rattle.std.proofs.Common.{refl};
-    ghost use Rattle.model_rw_writer.specs.Table.{rw_writer_table};
-    ghost use Rattle.running_tallies.specs.RwWriterRule.{AreGrantsByKindIn};
-    ghost use Rattle.running_tallies.specs.RwWriterTally.{grants_by_kind_stay};
+    ghost use Rattle.running_tallies.specs.RwWriterRule.{AreMarkedIn};
+    ghost use Rattle.running_tallies.specs.RwWriterTally.{marks_stay, marks_open};
 
-    ghost follow = { λ _. AreGrantsByKindIn rw_writer_table };
+    ghost follow = { λ _. AreMarkedIn };
 
-    ghost stays = { λ _. grants_by_kind_stay rw_writer_table };
+    ghost stays = { λ _. marks_stay };
 
-    ghost opens = { λ _. record { reads = refl; writes = refl } };
+    ghost opens = { λ _. marks_open };
+}
+
+impl CountsByActs<(), RwWriterScript, RwWriterPlace, u64> for MarkedHolds {
+    ghost use Rattle.running_tallies.specs.RwWriterRule.{marked_sees, marked_after, marked_needed};
+    ghost use Rattle.running_tallies.specs.RwWriterTally.{marks_go_on};
+
+    ghost free = { λ _ _ _ _. tt };
+
+    ghost sees = { marked_sees };
+
+    ghost after = { marked_after };
+
+    ghost needs = { marked_needed };
+
+    ghost goes_on = { λ _. marks_go_on };
 }

@@ -6,7 +6,7 @@ pub subtract-next-requires-clause-may : goal.subtract-next-requires-clause-may
 subtract-next-requires-clause-may g c = may_leave_reading _ c.requires.has
 
 pub subtract-next-requires-clause-needs : goal.subtract-next-requires-clause-needs
-subtract-next-requires-clause-needs g c = λ name found. c.requires.on
+subtract-next-requires-clause-needs g c = λ name found named. c.requires.on
 
 pub returns-clause-released : goal.returns-clause-released
 returns-clause-released g c = readers_out _ _ c.args.turn.pass.now c.subtract-next.result.1.pass.now (may_leave_reading _ c.requires.has) c.subtract-next.ensures.same c.subtract-next.ensures.beside c.subtract-next.ensures.told c.requires.on

@@ -1,5 +1,7 @@
+use Rattle.running_rw_writer.specs.RwWriterShown.{HasEnteredSeenFree, HasTried}
+use Rattle.running_rw_writer.proofs.RwWriterTries.{unchanged, fewest, tried_again, tries_after}
 use Rattle.running_rw_writer.specs.Names.{WaitAction, Pass, Answered, parties_of, spun}
-use Rattle.running_rw_writer.proofs.Names.{◌<◌, ◌^◌, ◌∙◌, sym, subst, arith}
+use Rattle.running_rw_writer.proofs.Names.{◌<◌, ◌^◌, ◌∙◌, sym, subst, arith, MatchBool}
 use Rattle.running_passes.proofs.Attempts.{told_of_its_kind}
 use Rattle.running_rw_writer.specs.RwWriterSteps.{PlayedRwWriter}
 use Rattle.running_rw_writer.specs.RwWriterParties.{ComesToWrite, ComesToGiveUp}
@@ -29,3 +31,13 @@ returns-in-Abort-clause-aborted g c = told_of_its_kind g.W.Fn _ (λ n. n < 2 ^ 6
 
 pub returns-clause-played : goal.returns-clause-played
 returns-clause-played g c = λ done at. c.enter_or_mark_from.ensures.played 10000 done (goes_on c.load_count-count.result.0 c.look_last-seen.result.0 (spun 10000) done _ (sym c.is_blocked.ensures ∙ c.if-is_blocked.false) (c.look_last-seen.ensures.looked (spun 10000) done (c.load_count-count.ensures.loaded (spun 10000) done at)))
+
+pub returns-in-Continue-clause-entered : goal.returns-in-Continue-clause-entered
+returns-in-Continue-clause-entered g c = tries_after 0 1 _ _ _ _ (fewest 1 _ _ (tried_again 0 1 _ _ _ (unchanged _ _ c.load_count-count.ensures.same c.load_count-count.ensures.unchanged) c.look_last-seen.ensures.tried))
+    (subst (λ (p : Pass PlayedRwWriter). MatchBool c.enter_or_mark.result.0 (HasEnteredSeenFree p c.enter_or_mark.result.1.pass.now) (HasTried 1 p c.enter_or_mark.result.1.pass.now)) c.in-Continue.ensures.still c.enter_or_mark.ensures.entered)
+
+pub returns-in-Abort-clause-looked : goal.returns-in-Abort-clause-looked
+returns-in-Abort-clause-looked g c = subst (λ (p : Pass PlayedRwWriter). HasTried 1 c.args.turn.pass.now p) (sym c.in-Abort.ensures.still) (tried_again 0 1 _ _ _ (unchanged _ _ c.load_count-count.ensures.same c.load_count-count.ensures.unchanged) c.look_last-seen.ensures.tried)
+
+pub returns-clause-entered : goal.returns-clause-entered
+returns-clause-entered g c = tries_after 1 0 _ _ _ _ (tried_again 0 1 _ _ _ (unchanged _ _ c.load_count-count.ensures.same c.load_count-count.ensures.unchanged) c.look_last-seen.ensures.tried) c.enter_or_mark_from.ensures.entered

@@ -1,3 +1,5 @@
+use Rattle.running_rw_writer.specs.RwWriterShown.{HasEnteredSeenFree}
+use Rattle.running_rw_writer.proofs.RwWriterTries.{entered_after, tried_again, gave_up_after}
 use Rattle.running_rw_writer.specs.Names.{Call, Answer, HoldKind, Pass, parties_of, rw_writer_model}
 use Rattle.running_rw_writer.proofs.Names.{Some, sym, subst, is_over}
 use Rattle.running_rw_writer.specs.RwWriterSteps.{PlayedRwWriter}
@@ -18,3 +20,9 @@ returns-in-Ok-clause-played g c = λ done comes. subst (λ (q : Pass PlayedRwWri
 
 pub returns-in-Err-clause-played : goal.returns-in-Err-clause-played
 returns-in-Err-clause-played g c = λ done comes. c.give_up.ensures.played done (c.in-Err.ensures.goes_on given_up done (c.look_to_write-seen.ensures.looked given_up done comes))
+
+pub returns-in-Ok-clause-entered : goal.returns-in-Ok-clause-entered
+returns-in-Ok-clause-entered g c = subst (λ (q : Pass PlayedRwWriter). HasEnteredSeenFree c.args.turn.pass.now q) (sym c.end.ensures.still) (entered_after 1 _ _ _ c.look_to_write-seen.ensures.tried c.in-Ok.ensures.entered)
+
+pub returns-in-Err-clause-entered : goal.returns-in-Err-clause-entered
+returns-in-Err-clause-entered g c = gave_up_after 1 0 _ _ _ (tried_again 1 0 _ _ _ c.look_to_write-seen.ensures.tried c.in-Err.ensures.refused.0) c.give_up.ensures.gave_up

@@ -1,8 +1,18 @@
+use Rattle.running_rw_writer.specs.Names.{Word, Intent, counts_of, marked_needed}
+use Rattle.running_rw_writer.proofs.Names.{subst}
+use Rattle.model_events.specs.Rows.{carried_out}
+use Rattle.running_rw_writer.proofs.RwWriterKeeps.{writers_out}
 use Rattle.running_rw_writer.proofs.RwWriterPlays.{may_leave_writing, leaves_writing}
 use Rattle.running_rw_writer.proofs.RwLockWriterPreference.leave_writing.Goals as goal
 
-pub store_by-requires-clause-may : goal.store_by-requires-clause-may
-store_by-requires-clause-may g c = may_leave_writing _ c.requires.has
+pub store-requires-clause-may : goal.store-requires-clause-may
+store-requires-clause-may g c = may_leave_writing _ c.requires.has
+
+pub store-requires-clause-needs : goal.store-requires-clause-needs
+store-requires-clause-needs g c = λ name found named. subst (λ (w : Word). marked_needed (carried_out (Intent.Store w 0) (λ _. found)) (counts_of c.args.turn.pass.now)) named c.requires.on
+
+pub returns-clause-released : goal.returns-clause-released
+returns-clause-released g c = writers_out _ c.args.turn.pass.now c.store.result.pass.now (may_leave_writing _ c.requires.has) c.store.ensures.same c.store.ensures.beside c.store.ensures.told c.requires.on
 
 pub returns-clause-played : goal.returns-clause-played
-returns-clause-played g c = leaves_writing _ _ _ c.store_by.ensures.went
+returns-clause-played g c = leaves_writing _ _ _ c.store.ensures.went

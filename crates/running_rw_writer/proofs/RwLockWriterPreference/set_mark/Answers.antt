@@ -1,14 +1,23 @@
-use Rattle.running_rw_writer.specs.Names.{parties_of, counted, Going}
-use Rattle.running_rw_writer.proofs.RwWriterCounts.{mark_counts}
-use Rattle.running_rw_writer.proofs.RwWriterKeeps.{marks_set}
-use Rattle.running_rw_writer.proofs.RwWriterPlays.{marked}
+use Rattle.running_rw_writer.specs.Names.{None, Call, RwWriterPlace}
+use Rattle.running_rw_writer.proofs.Names.{◌+◌, refl}
+use Rattle.running_rw_writer.proofs.RwWriterKeeps.{made_mark}
+use Rattle.running_rw_writer.proofs.RwWriterPlays.{comes_to_mark, may_mark, marked, mark_missed}
+use Rattle.running_rw_writer.proofs.RwWriterTries.{set_it, missed_it}
 use Rattle.running_rw_writer.proofs.RwLockWriterPreference.set_mark.Goals as goal
 
-pub exchange_by-found-requires-clause-update : goal.exchange_by-found-requires-clause-update
-exchange_by-found-requires-clause-update g c = marks_set _ _ _ c.requires.even c.requires.other c.requires.marked
+pub exchange-found-requires-clause-may : goal.exchange-found-requires-clause-may
+exchange-found-requires-clause-may g c = may_mark c.requires.at.0 _ _ c.requires.at.1 _ c.requires.even c.requires.other c.requires.marked c.requires.at.2
 
-pub exchange_by-found-requires-clause-follow : goal.exchange_by-found-requires-clause-follow
-exchange_by-found-requires-clause-follow g c = mark_counts Going (parties_of c.args.turn.pass.now) (counted c.args.turn.pass.now) _ _ c.requires.marked
+pub returns-then-found-seen-clause-done : goal.returns-then-found-seen-clause-done
+returns-then-found-seen-clause-done g c = let w = c.requires.at in set_it _ _ 1 c.exchange-found.ensures.same
+    ((made_mark Call.WriteLock _ _ _ _ _ c.requires.other refl (c.exchange-found.ensures.told Call.WriteLock (RwWriterPlace.Mark c.args.seen (c.args.seen + 1) w.0) None w.1 (comes_to_mark w.0 _ w.1 _ c.requires.even c.requires.other w.2))).0 c.if-found-seen.true)
 
 pub returns-then-found-seen-clause-spins : goal.returns-then-found-seen-clause-spins
-returns-then-found-seen-clause-spins g c = λ patience done at. marked patience _ _ done _ _ c.requires.even c.requires.other c.if-found-seen.true at c.exchange_by-found.ensures.went
+returns-then-found-seen-clause-spins g c = λ patience done at. marked patience _ _ done _ _ c.requires.even c.requires.other c.if-found-seen.true at c.exchange-found.ensures.went
+
+pub returns-else-found-seen-clause-looks : goal.returns-else-found-seen-clause-looks
+returns-else-found-seen-clause-looks g c = λ patience done at. mark_missed patience _ _ done _ _ c.requires.even c.requires.other c.if-found-seen.false at c.exchange-found.ensures.went
+
+pub returns-else-found-seen-clause-missed : goal.returns-else-found-seen-clause-missed
+returns-else-found-seen-clause-missed g c = let w = c.requires.at in missed_it _ _ _ _ c.exchange-found.ensures.same c.requires.just
+    ((made_mark Call.WriteLock _ _ _ _ _ c.requires.other refl (c.exchange-found.ensures.told Call.WriteLock (RwWriterPlace.Mark c.args.seen (c.args.seen + 1) w.0) None w.1 (comes_to_mark w.0 _ w.1 _ c.requires.even c.requires.other w.2))).1 c.if-found-seen.false)

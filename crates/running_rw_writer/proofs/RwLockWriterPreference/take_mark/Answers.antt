@@ -1,14 +1,23 @@
-use Rattle.running_rw_writer.specs.Names.{parties_of, counted, Going}
-use Rattle.running_rw_writer.proofs.RwWriterCounts.{unmark_counts}
-use Rattle.running_rw_writer.proofs.RwWriterKeeps.{marks_taken}
-use Rattle.running_rw_writer.proofs.RwWriterPlays.{may_unmark}
+use Rattle.running_rw_writer.specs.Names.{None, Call, RwWriterPlace}
+use Rattle.running_rw_writer.proofs.Names.{◌-◌, refl}
+use Rattle.running_rw_writer.proofs.RwWriterKeeps.{made_unmark}
+use Rattle.running_rw_writer.proofs.RwWriterPlays.{comes_to_unmark, may_unmark, unmarked, unmark_missed}
+use Rattle.running_rw_writer.proofs.RwWriterTries.{took_it, missed_it}
 use Rattle.running_rw_writer.proofs.RwLockWriterPreference.take_mark.Goals as goal
 
-pub exchange_by-found-requires-clause-may : goal.exchange_by-found-requires-clause-may
-exchange_by-found-requires-clause-may g c = may_unmark _ _ c.requires.at.0 _ c.requires.set c.requires.unmarked c.requires.at.1
+pub exchange-found-requires-clause-may : goal.exchange-found-requires-clause-may
+exchange-found-requires-clause-may g c = may_unmark _ _ c.requires.at.0 _ c.requires.set c.requires.unmarked c.requires.at.1
 
-pub exchange_by-found-requires-clause-update : goal.exchange_by-found-requires-clause-update
-exchange_by-found-requires-clause-update g c = marks_taken _ _ _ c.requires.set c.requires.unmarked
+pub returns-then-found-seen-clause-counts : goal.returns-then-found-seen-clause-counts
+returns-then-found-seen-clause-counts g c = unmarked _ _ _ _ c.requires.set c.if-found-seen.true c.exchange-found.ensures.went
 
-pub exchange_by-found-requires-clause-follow : goal.exchange_by-found-requires-clause-follow
-exchange_by-found-requires-clause-follow g c = unmark_counts Going (parties_of c.args.turn.pass.now) (counted c.args.turn.pass.now) _ _ c.requires.set c.requires.unmarked
+pub returns-then-found-seen-clause-done : goal.returns-then-found-seen-clause-done
+returns-then-found-seen-clause-done g c = took_it _ _ c.exchange-found.ensures.same c.requires.cause
+    ((made_unmark Call.WriteLock _ _ _ _ _ c.requires.set refl (c.exchange-found.ensures.told Call.WriteLock (RwWriterPlace.Unmark c.args.seen (c.args.seen - 1)) None c.requires.at.0 (comes_to_unmark _ c.requires.at.0 _ c.requires.set c.requires.at.1))).0 c.if-found-seen.true)
+
+pub returns-else-found-seen-clause-looks : goal.returns-else-found-seen-clause-looks
+returns-else-found-seen-clause-looks g c = unmark_missed _ _ _ _ c.requires.set c.if-found-seen.false c.exchange-found.ensures.went
+
+pub returns-else-found-seen-clause-missed : goal.returns-else-found-seen-clause-missed
+returns-else-found-seen-clause-missed g c = missed_it _ _ _ _ c.exchange-found.ensures.same c.requires.just
+    ((made_unmark Call.WriteLock _ _ _ _ _ c.requires.set refl (c.exchange-found.ensures.told Call.WriteLock (RwWriterPlace.Unmark c.args.seen (c.args.seen - 1)) None c.requires.at.0 (comes_to_unmark _ c.requires.at.0 _ c.requires.set c.requires.at.1))).1 c.if-found-seen.false)

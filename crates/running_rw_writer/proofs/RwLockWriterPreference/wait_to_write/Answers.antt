@@ -1,5 +1,7 @@
+use Rattle.running_rw_writer.specs.RwWriterShown.{HasEnteredSeenFree, HasGivenUpWriting}
+use Rattle.running_rw_writer.proofs.RwWriterTries.{entered_after, tried_again, ends_after}
 use Rattle.running_rw_writer.specs.Names.{Call, HoldKind, Pass, sights_of, HasWoken, all_of, parties_of}
-use Rattle.running_rw_writer.proofs.Names.{◌≡◌, ◌∙◌, true, sym, subst, MatchBool-at_true, MatchBool-at_false}
+use Rattle.running_rw_writer.proofs.Names.{◌≡◌, ◌∙◌, true, sym, subst, MatchBool-at_true, MatchBool-at_false, MatchBool}
 use Rattle.running_rw_writer.specs.RwWriterSteps.{PlayedRwWriter, IsMarked}
 use Rattle.running_rw_writer.specs.RwWriterParties.{has_hold}
 use Rattle.running_rw_writer.proofs.RwWriterPlays.{granted_has}
@@ -16,3 +18,9 @@ returns-clause-has g c = λ done. subst (λ (q : Pass PlayedRwWriter). has_hold 
 
 pub returns-clause-woke : goal.returns-clause-woke
 returns-clause-woke g c = λ no. subst (λ (q : Pass PlayedRwWriter). IsMarked (sights_of q).last → HasWoken g.K.Fn c.args.wake_one.now × HasWoken g.V.Fn c.args.wake_all.now) (sym (c.pass-2-1.given.1 (sym c.first_try-at_once.ensures.same_borrow ∙ sym c.spin_to_write-in_time.ensures.same_borrow ∙ sym c.ask_to_write-entered.ensures.same_borrow))) (c.ask_to_write-entered.ensures.woke no)
+
+pub returns-then-in_time-clause-entered : goal.returns-then-in_time-clause-entered
+returns-then-in_time-clause-entered g c = subst (λ (q : Pass PlayedRwWriter). HasEnteredSeenFree c.args.pass.now q) (sym (c.pass-then-in_time-1.given.1 (sym c.first_try-at_once.ensures.same_borrow ∙ sym c.spin_to_write-in_time.ensures.same_borrow ∙ sym c.end-pass-then-in_time.ensures.same_borrow) ∙ c.end-pass-then-in_time.ensures.still)) (entered_after 1 _ _ _ (MatchBool-at_false _ _ c.if-at_once.false c.first_try-at_once.ensures.entered) (MatchBool-at_true _ _ c.if-in_time.true c.spin_to_write-in_time.ensures.entered))
+
+pub returns-clause-entered : goal.returns-clause-entered
+returns-clause-entered g c = subst (λ (q : Pass PlayedRwWriter). MatchBool c.ask_to_write-entered.result.0 (HasEnteredSeenFree c.args.pass.now q) (HasGivenUpWriting 10003 c.args.pass.now q)) (sym (c.pass-2-1.given.1 (sym c.first_try-at_once.ensures.same_borrow ∙ sym c.spin_to_write-in_time.ensures.same_borrow ∙ sym c.ask_to_write-entered.ensures.same_borrow))) (ends_after 10001 2 _ _ _ _ (tried_again 1 10000 _ _ _ (MatchBool-at_false _ _ c.if-at_once.false c.first_try-at_once.ensures.entered) (MatchBool-at_false _ _ c.if-in_time.false c.spin_to_write-in_time.ensures.entered)) c.ask_to_write-entered.ensures.entered)

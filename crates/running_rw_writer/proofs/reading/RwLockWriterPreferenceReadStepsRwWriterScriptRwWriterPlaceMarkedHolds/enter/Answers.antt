@@ -1,14 +1,20 @@
-use Rattle.running_rw_writer.specs.Names.{Going, parties_of, counted}
-use Rattle.running_rw_writer.proofs.RwWriterCounts.{reader_in_counts}
-use Rattle.running_rw_writer.proofs.RwWriterKeeps.{readers_in}
-use Rattle.running_rw_writer.proofs.RwWriterPlays.{may_read}
+use Rattle.running_rw_writer.proofs.RwWriterKeeps.{made_read, exchanges, enters, exchanges_alone}
+use Rattle.running_rw_writer.proofs.RwWriterPlays.{may_read, read_once, read_goes}
 use Rattle.running_rw_writer.proofs.reading.RwLockWriterPreferenceReadStepsRwWriterScriptRwWriterPlaceMarkedHolds.enter.Goals as goal
 
-pub exchange_by-requires-clause-may : goal.exchange_by-requires-clause-may
-exchange_by-requires-clause-may g c = may_read _ _ _ c.requires.room.0 c.requires.room.1 c.requires.may
+pub exchange-requires-clause-may : goal.exchange-requires-clause-may
+exchange-requires-clause-may g c = may_read _ _ _ c.requires.room.0 c.requires.room.1 c.requires.may
 
-pub exchange_by-requires-clause-update : goal.exchange_by-requires-clause-update
-exchange_by-requires-clause-update g c = readers_in _ _ _ c.requires.room.0.0 c.requires.room.0.1 c.requires.room.1
-
-pub exchange_by-requires-clause-follow : goal.exchange_by-requires-clause-follow
-exchange_by-requires-clause-follow g c = reader_in_counts Going (parties_of c.args.turn.pass.now) (counted c.args.turn.pass.now) _ _ c.requires.room.1
+pub returns-clause-tried : goal.returns-clause-tried
+returns-clause-tried g c =
+    let p = c.args.turn.pass.now in
+    let q = c.exchange.result.1.pass.now in
+    let may = may_read _ _ _ c.requires.room.0 c.requires.room.1 c.requires.may in
+    let made = made_read _ _ _ _ _ _ c.requires.room.1 (exchanges _ _ _ _ p q may c.exchange.ensures.told) in record {
+      done = λ hit. (c.exchange.ensures.same, made.0 hit);
+      moved = enters _ _ _ _ p q may c.exchange.ensures.told c.exchange.ensures.beside c.requires.room.0 c.exchange.ensures.alone;
+      failed = λ miss. (c.exchange.ensures.same, made.1 miss);
+      alone = exchanges_alone _ _ _ _ p q may c.exchange.ensures.told c.exchange.ensures.alone;
+      once_led = λ done at. read_once _ _ done _ _ c.requires.room.0 at c.exchange.ensures.went;
+      led = λ patience done at. read_goes patience _ _ done _ _ c.requires.room.0 at c.exchange.ensures.went;
+    }

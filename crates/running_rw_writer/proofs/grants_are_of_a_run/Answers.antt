@@ -1,0 +1,5 @@
+use Rattle.running_rw_writer.proofs.RwWriterKeeps.{grants_are_of_a_run}
+use Rattle.running_rw_writer.proofs.grants_are_of_a_run.Goals as goal
+
+pub returns : goal.returns
+returns c = grants_are_of_a_run
