@@ -18,9 +18,6 @@ Ended call answer hold done p = HasEnded rw_writer_model call answer hold done p
 
 -- what the tests of the table say
 
-hit : (m n : ℕ) → m ≡ n → (m == n) ≡ true
-hit m n is = subst (λ k. (k == n) ≡ true) (sym is) (eqb_same n)
-
 pub unmarked_word : (w : ℕ) → ¬ IsMarked w → is_marked w ≡ false
 unmarked_word w h1 = grind (arith, nat_tests, eqb-true, eqb-false)
 
@@ -117,7 +114,7 @@ enter_so : (patience : Patience) (seen found : ℕ) (done : List (Slot ℕ)) (q 
 enter_so patience seen found done q test grants led = rw (test, grants) at led
 
 pub entered : (patience : Patience) (seen found : ℕ) (done : List (Slot ℕ)) (p q : Parties ℕ) → seen < 2 → found ≡ seen → WriteGoes (After.At (RwWriterPlace.Enter seen patience)) done p → TableLed Going p found q → WriteIsGranted done q
-entered patience seen found done p q free is at went = enter_so patience seen found done q (hit found seen is) (enters seen free) (went Call.WriteLock (RwWriterPlace.Enter seen patience) None done at)
+entered patience seen found done p q free is at went = enter_so patience seen found done q (subst (λ k. (k == seen) ≡ true) (sym is) (eqb_same seen)) (enters seen free) (went Call.WriteLock (RwWriterPlace.Enter seen patience) None done at)
 
 enter_missed_so : (patience : Patience) (seen found : ℕ) (done : List (Slot ℕ)) (q : Parties ℕ) → (found == seen) ≡ false →
     Led rw_writer_model Call.WriteLock (RwWriterPlace.Enter seen patience) None found done q → WriteGoes (write_refused patience found) done q
@@ -254,12 +251,9 @@ unlocking kind after p q has goes = record { call = Call.Unlock; done = p.restin
 pub last_reader : (found : ℕ) (p q : Parties ℕ) → found ≡ 3 → Unlocks HoldKind.Read (released (Some found)) p q → Unlocks HoldKind.Read (After.At (RwWriterPlace.Count Leaver.Reader)) p q
 last_reader found p q is goes = λ done holding. subst (λ n. CallGoes Call.Unlock (released (Some n)) done q) is (goes done holding)
 
-wakes_so : (found : ℕ) (done : List (Slot ℕ)) (q : Parties ℕ) → (found == 3) ≡ true → CallGoes Call.Unlock (After.At (RwWriterPlace.WakeOne Leaver.Reader)) done q → CallGoes Call.Unlock (unlocked HoldKind.Read found) done q
-wakes_so found done q test at = rw test at
-
 pub wakes_writer : (found last : ℕ) (p q r : Parties ℕ) → found ≡ 3 → last ≡ found → Unlocks HoldKind.Read (After.At (RwWriterPlace.Count Leaver.Reader)) p q → GoesFromTo Call.Unlock (After.At (RwWriterPlace.Count Leaver.Reader)) (After.At (RwWriterPlace.WakeOne Leaver.Reader)) q r →
     Unlocks HoldKind.Read (unlocked HoldKind.Read last) p r
-wakes_writer found last p q r is saw goes on = λ done holding. wakes_so last done r (hit last 3 (saw ∙ is)) (on done (goes done holding))
+wakes_writer found last p q r is saw goes on = λ done holding. subst (λ n. CallGoes Call.Unlock (unlocked HoldKind.Read n) done r) (sym (saw ∙ is)) (on done (goes done holding))
 
 -- another reader is answered
 
