@@ -95,10 +95,6 @@ may_try action done v at = may_lock (Answered action) v.tally.parties 1 refl (re
 pub led_answered : (free : Bool) (action : WaitAction) (done : List (Slot ℕ)) (v w : MutexView) → Tries (Answered action) free v w → Stands done v → MatchBool free (Granted done w) (Refused (answered (spun 10000) action) done w)
 led_answered free action done v w t at = led free (Answered action) (answered (spun 10000) action) done v w t (tries_on mutex_model Call.Lock MutexPlace.Lock (λ p a. refl) action 1 done v.tally.parties at)
 
--- who was granted the lock has it
-pub has_now : (done : List (Slot ℕ)) (v w : MutexView) → done ≡ all_of v.tally.parties → Granted done w → HasMutex w.tally.parties
-has_now done v w is granted = granted_has Call.Lock v.tally.parties w.tally.parties (subst (λ d. Granted d w) is granted)
-
 -- how a call that asked ended, by whether its last exchange was done
 module _ {F W : Type 0} (g : Shared F (Bor W × (Bor ℕ × Unit {0})) WaitAction) (wait : F) where
   pub ended : (b : Bool) (u v w : MutexView) → GoesOn g wait u v → MatchBool b (Locks v w) (SeesLocked v w) → MatchBool b (Enters u w) (GivesUp 0 g wait u w)

@@ -1,7 +1,6 @@
 //! The guarded value itself.
 ghost use Rattle.std.specs.Prelude.{◌≡◌, ℕ, ◌<◌, ◌≤◌, ◌+◌, List, [], ◌∷◌, IfOk, IfErr, Some, None, true, false, MatchBool};
 ghost use Rattle.running_passes.specs.Parts.{IsWhole};
-ghost use Rattle.running_passes.specs.Sights.{seen_instead};
 ghost use Rattle.running_passes.specs.Views.{first_view};
 ghost use Rattle.running_passes.specs.Answers.{MayAnswerAbort, HasWoken};
 ghost use Rattle.model_events.specs.declared.event.Word.TheVariants as words;
@@ -18,21 +17,23 @@ ghost use Rattle.running_model.specs.Tries.{spun, IsRefused, IsStanding, IsGrant
 ghost use Rattle.running_mutex.specs.MutexParties.{HasMutex};
 ghost use Rattle.running_mutex.specs.MutexShown.{IsLocked};
 ghost use Rattle.running_spin_lock.specs.ValueRule.{none_held};
-ghost use Rattle.running_spin_lock.specs.ValueSteps.{Locks, Lets, Enters, Tried, Stored, HasValue, has_vacant_slot};
+ghost use Rattle.running_spin_lock.specs.ValueSteps.{Locks, Lets, Enters, HasValue, has_vacant_slot};
 ghost use Rattle.running_guarded.specs.GuardedRule.{GrantsAreOfARun, OneHolderAtMost};
 ghost use Rattle.running_guarded.specs.GuardedSteps.{SeesLocked, Tries, SeesLockedOften, GivesUp, Plays, PlaysUnlock, PlaysBoth, Acts};
 
 use crate::guard::Guard;
 use crate::pass::GuardedPass;
-use crate::rule::GuardedRule;
 use crate::word::GuardedWord;
-use atomic_table::{Play, Refused, Seat, Table};
+use atomic_table::{Seat, Table};
 use model_events::{SPIN_REPETITIONS, WaitAction};
+use model_mutex::MutexPlace;
 use running_model::Sealed;
-use running_model::seat::{SeatAnswered, SeatTurn, begin_held, begin_new};
+use running_model::seat::{SeatAnswered, SeatTurn, begin_new};
 use running_model::turn::{Called, Goes, Way};
 use running_passes::{View, WaitResult};
-use running_tallies::PlayedMutex;
+use running_spin_lock::ValueRule;
+use running_spin_lock::slot::{self, FREE, LOCKED};
+use running_tallies::{MutexScript, PlayedMutex};
 use std::alloc::{AllocError, Allocator, Global};
 use std::hint::spin_loop;
 use std::sync::Wait;
@@ -41,23 +42,9 @@ use std::thread;
 /// A lock with one holder at most, which guards a value. It may be shared by threads where the value may go from one to another.
 #[derive(Drop)]
 pub struct Guarded<T, A: Allocator = Global> {
-    pub(crate) table: Table<Option<T>, View<PlayedMutex>, (), GuardedRule, A>,
+    pub(crate) table: Table<Option<T>, View<PlayedMutex>, (), ValueRule, A>,
     ghost one_word: { table.shared.table_id.words ≡ 1 },
     ghost one_slot: { table.shared.table_id.slots ≡ 1 },
-}
-
-/// What an exchange of 0 for 1 tells of its seat.
-struct Exchange;
-
-impl<T> Play<Option<T>, View<PlayedMutex>> for Exchange {
-    ghost then = { λ _ me found after. Tried (λ s. seen_instead s 0 1) me found after };
-}
-
-/// What a store of 0 tells of its seat.
-struct Release;
-
-impl<T> Play<Option<T>, View<PlayedMutex>> for Release {
-    ghost then = { λ _ me _ after. Stored me after };
 }
 
 /// A `TryLock`.
@@ -81,11 +68,6 @@ impl Called<u64> for UnlockCall {
     ghost call = { calls.Unlock };
 }
 
-/// The word where it is locked, and where it is free.
-const LOCKED: u64 = 1;
-
-const FREE: u64 = 0;
-
 impl<T, A: Allocator> Guarded<T, A> {
     ghost use Rattle.running_guarded.specs.GuardedShown.{id_of, object_of, number_of, view};
     ghost use Rattle.running_guarded.specs.GuardedWord.{object_shown};
@@ -97,6 +79,7 @@ impl<T, A: Allocator> Guarded<T, A> {
         turn: SeatTurn<Option<T>, PlayedMutex, W>,
     ) -> (bool, SeatTurn<Option<T>, PlayedMutex, Goes>)
         requires own { turn.seat.table_id ≡ id_of self.now }
+        requires off { turn.seat.me.0.tally.counts.holds ≡ 0 }
         requires no_slot { turn.seat.me.1 ≡ [] }
         requires alive { 0 < turn.seat.me.0.part.share }
         requires may { MayStep mutex_model (words.State ∷ []) W.coming 0 (λ w. intents.Exchange w 0 1) turn.seat.me.0.tally.parties }
@@ -104,9 +87,9 @@ impl<T, A: Allocator> Guarded<T, A> {
         ensures locked { MatchBool result.0 (Locks turn.seat.me.0 result.1.seat.me.0) (SeesLocked turn.seat.me.0 result.1.seat.me.0) }
         ensures slot { MatchBool result.0 (HasValue result.1.seat.me.1) (result.1.seat.me.1 ≡ []) }
         ensures tried { Tries W.coming result.0 turn.seat.me.0 result.1.seat.me.0 }
-        ensures exact { IsWhole turn.seat.me.0.part → turn.seat.me.0.tally.counts.holds ≡ 0 → result.0 ≡ true }
+        ensures exact { IsWhole turn.seat.me.0.part → result.0 ≡ true }
     {
-        let (found, next) = turn.exchange::<_, Exchange>(&self.table.shared, 0, FREE, LOCKED);
+        let (found, next) = turn.exchange(&self.table.shared, 0, FREE, LOCKED);
         (found == FREE, next)
     }
 
@@ -117,6 +100,7 @@ impl<T, A: Allocator> Guarded<T, A> {
         seat: Seat<Option<T>, View<PlayedMutex>>,
     ) -> (bool, SeatTurn<Option<T>, PlayedMutex, Goes>)
         requires own { seat.table_id ≡ id_of self.now }
+        requires off { seat.me.0.tally.counts.holds ≡ 0 }
         requires no_slot { seat.me.1 ≡ [] }
         requires alive { 0 < seat.me.0.part.share }
         requires may { MayStep mutex_model (words.State ∷ []) (Beginning L.call) 0 (λ w. intents.Exchange w 0 1) seat.me.0.tally.parties }
@@ -124,7 +108,7 @@ impl<T, A: Allocator> Guarded<T, A> {
         ensures locked { MatchBool result.0 (Locks seat.me.0 result.1.seat.me.0) (SeesLocked seat.me.0 result.1.seat.me.0) }
         ensures slot { MatchBool result.0 (HasValue result.1.seat.me.1) (result.1.seat.me.1 ≡ []) }
         ensures tried { Tries (Beginning L.call) result.0 seat.me.0 result.1.seat.me.0 }
-        ensures exact { IsWhole seat.me.0.part → seat.me.0.tally.counts.holds ≡ 0 → result.0 ≡ true }
+        ensures exact { IsWhole seat.me.0.part → result.0 ≡ true }
     {
         self.exchange(begin_new::<L, Option<T>, PlayedMutex>(seat))
     }
@@ -135,6 +119,7 @@ impl<T, A: Allocator> Guarded<T, A> {
         turn: SeatTurn<Option<T>, PlayedMutex, Goes>,
     ) -> (bool, SeatTurn<Option<T>, PlayedMutex, Goes>)
         requires own { turn.seat.table_id ≡ id_of self.now }
+        requires off { turn.seat.me.0.tally.counts.holds ≡ 0 }
         requires no_slot { turn.seat.me.1 ≡ [] }
         requires alive { 0 < turn.seat.me.0.part.share }
         requires seen { IsLocked turn.seat.me.0.sights.last }
@@ -165,6 +150,7 @@ impl<T, A: Allocator> Guarded<T, A> {
         wait: &W,
     ) -> (bool, SeatTurn<Option<T>, PlayedMutex, Goes>)
         requires own { turn.seat.table_id ≡ id_of self.now }
+        requires off { turn.seat.me.0.tally.counts.holds ≡ 0 }
         requires no_slot { turn.seat.me.1 ≡ [] }
         requires alive { 0 < turn.seat.me.0.part.share }
         requires may { W.IsAlwaysCallable wait.now }
@@ -201,6 +187,7 @@ impl<T, A: Allocator> Guarded<T, A> {
         wait: &W,
     ) -> (bool, Seat<Option<T>, View<PlayedMutex>>)
         requires own { seat.table_id ≡ id_of self.now }
+        requires off { seat.me.0.tally.counts.holds ≡ 0 }
         requires no_slot { seat.me.1 ≡ [] }
         requires alive { 0 < seat.me.0.part.share }
         requires may { W.IsAlwaysCallable wait.now }
@@ -209,7 +196,7 @@ impl<T, A: Allocator> Guarded<T, A> {
         ensures slot { MatchBool result.0 (HasValue result.1.me.1) (result.1.me.1 ≡ []) }
         ensures played { MatchBool result.0 (Plays calls.Lock answers.Success (Some kinds.Write) seat.me.0 result.1.me.0) (Plays calls.Lock answers.Interrupted None seat.me.0 result.1.me.0) }
         ensures has { result.0 ≡ true → HasMutex result.1.me.0.tally.parties }
-        ensures exact { IsWhole seat.me.0.part → seat.me.0.tally.counts.holds ≡ 0 → result.0 ≡ true }
+        ensures exact { IsWhole seat.me.0.part → result.0 ≡ true }
         ensures aborted { result.0 ≡ false → MayAnswerAbort W.Fn wait.now IsLocked }
     {
         let (free, turn) = self.first::<LockCall>(seat);
@@ -231,6 +218,7 @@ impl<T, A: Allocator> Guarded<T, A> {
         seat: Seat<Option<T>, View<PlayedMutex>>,
     ) -> (bool, Seat<Option<T>, View<PlayedMutex>>)
         requires own { seat.table_id ≡ id_of self.now }
+        requires off { seat.me.0.tally.counts.holds ≡ 0 }
         requires no_slot { seat.me.1 ≡ [] }
         requires alive { 0 < seat.me.0.part.share }
         ensures same { (result.1.table_id ≡ seat.table_id) × (result.1.id ≡ seat.id) }
@@ -238,23 +226,10 @@ impl<T, A: Allocator> Guarded<T, A> {
         ensures slot { MatchBool result.0 (HasValue result.1.me.1) (result.1.me.1 ≡ []) }
         ensures played { MatchBool result.0 (Plays calls.TryLock answers.Success (Some kinds.Write) seat.me.0 result.1.me.0) (Plays calls.TryLock answers.Interrupted None seat.me.0 result.1.me.0) }
         ensures has { result.0 ≡ true → HasMutex result.1.me.0.tally.parties }
-        ensures exact { IsWhole seat.me.0.part → seat.me.0.tally.counts.holds ≡ 0 → result.0 ≡ true }
+        ensures exact { IsWhole seat.me.0.part → result.0 ≡ true }
     {
         let (free, turn) = self.first::<TryLockCall>(seat);
         (free, turn.end())
-    }
-
-    /// The value, out of the slot that the exchange took.
-    #[inline(always)]
-    fn take(&self, seat: &mut Seat<Option<T>, View<PlayedMutex>>) -> T
-        requires own { seat.old.table_id ≡ id_of self.now }
-        requires there { HasValue seat.old.me.1 }
-        ensures same { (seat.new.table_id ≡ seat.old.table_id) × (seat.new.id ≡ seat.old.id) }
-        ensures view { seat.new.me.0 ≡ seat.old.me.0 }
-        ensures vacant { has_vacant_slot seat.new.me.1 ≡ true }
-    {
-        let shared = &self.table.shared;
-        shared.exchange(seat, 0, None).unwrap()
     }
 
     /// What `unlock` does, by the seat that has the slot.
@@ -277,36 +252,10 @@ impl<T, A: Allocator> Guarded<T, A> {
         ensures no_slot { result.me.1 ≡ [] }
         ensures woke { HasWoken W.Fn wake_one.now }
     {
-        let turn = self.release(seat, value);
+        let shared = &self.table.shared;
+        let turn = slot::release::<T, MutexScript, MutexPlace, UnlockCall>(shared, seat, value);
         let woken = turn.wake(&self.word(), wake_one);
         woken.end_aside()
-    }
-
-    /// Puts the value back into its slot, and stores 0.
-    #[inline(always)]
-    fn release(
-        &self,
-        seat: Seat<Option<T>, View<PlayedMutex>>,
-        value: T,
-    ) -> SeatTurn<Option<T>, PlayedMutex, Goes>
-        requires own { seat.table_id ≡ id_of self.now }
-        requires on { seat.me.0.tally.counts.holds ≡ 1 }
-        requires has { HasMutex seat.me.0.tally.parties }
-        requires alive { 0 < seat.me.0.part.share }
-        requires vacant { has_vacant_slot seat.me.1 ≡ true }
-        ensures same { (result.seat.table_id ≡ seat.table_id) × (result.seat.id ≡ seat.id) }
-        ensures off { Lets seat.me.0 result.seat.me.0 }
-        ensures played { PlaysUnlock seat.me.0 result.seat.me.0 }
-        ensures no_slot { result.seat.me.1 ≡ [] }
-    {
-        let mut seat = seat;
-        let shared = &self.table.shared;
-        match shared.exchange(&mut seat, 0, Some(value)) {
-            None => {}
-            Some(_) => unreachable!(),
-        }
-        let begun = begin_held::<UnlockCall, Option<T>, PlayedMutex>(seat);
-        begun.store::<_, Release>(shared, 0, FREE)
     }
 
     /// Locks the value, yielding until it is there, and takes it out of its slot.
@@ -316,6 +265,7 @@ impl<T, A: Allocator> Guarded<T, A> {
         rt: &R,
     ) -> (Seat<Option<T>, View<PlayedMutex>>, T)
         requires own { seat.table_id ≡ id_of self.now }
+        requires off { seat.me.0.tally.counts.holds ≡ 0 }
         requires no_slot { seat.me.1 ≡ [] }
         requires alive { 0 < seat.me.0.part.share }
         ensures same { (result.0.table_id ≡ seat.table_id) × (result.0.id ≡ seat.id) }
@@ -328,7 +278,7 @@ impl<T, A: Allocator> Guarded<T, A> {
         if !granted {
             unreachable!()
         }
-        let value = self.take(&mut seat);
+        let value = slot::take(&self.table.shared, &mut seat);
         (seat, value)
     }
 
@@ -389,7 +339,7 @@ impl<T, A: Allocator> Guarded<T, A> {
     {
         let (granted, mut seat) = this.enter(pass.rise(), rt, &wait);
         if granted {
-            let value = this.take(&mut seat);
+            let value = slot::take(&this.table.shared, &mut seat);
             WaitResult::Success(Guard {
                 of: this,
                 pass,
@@ -414,7 +364,7 @@ impl<T, A: Allocator> Guarded<T, A> {
     {
         let (free, mut seat) = this.try_enter(pass.rise());
         if free {
-            let value = this.take(&mut seat);
+            let value = slot::take(&this.table.shared, &mut seat);
             WaitResult::Success(Guard {
                 of: this,
                 pass,
@@ -476,7 +426,7 @@ impl<T, A: Allocator> Guarded<T, A> {
             *pass = GuardedPass::seated(seat);
             return WaitResult::Interrupted;
         }
-        let mut value = self.take(&mut seat);
+        let mut value = slot::take(&self.table.shared, &mut seat);
         let given = act(&mut value);
         *pass = GuardedPass::seated(self.leave(seat, value, &wake_one));
         WaitResult::Success(given)
@@ -507,17 +457,8 @@ impl<T, A: Allocator + Clone> Guarded<T, A> {
         ensures first { IfOk result (λ made. view made.1 ≡ first_view none_held) }
         ensures refused { IfErr result (λ refused. refused.1 ≡ value) }
     {
-        let Ok(for_slots) = alloc.clone() else {
-            return Err((AllocError, value));
-        };
-        let Ok(mut slots) = Vec::with_capacity(for_slots, 1) else {
-            return Err((AllocError, value));
-        };
-        slots.push_reserved(Some(value));
-        match Table::new(alloc, &[FREE], slots, &()) {
-            Ok((table, seat)) => Ok((Guarded { table }, GuardedPass::seated(seat))),
-            Err(Refused { slots }) => Err((AllocError, only(slots))),
-        }
+        let (table, seat) = slot::new(alloc, value)?;
+        Ok((Guarded { table }, GuardedPass::seated(seat)))
     }
 }
 
@@ -530,21 +471,8 @@ pub(crate) fn go_on() -> WaitAction
     WaitAction::Continue
 }
 
-/// The value in this slot.
-fn only<T, A: Allocator>(slots: Vec<Option<T>, A>) -> T
-    requires { (x : T) × (slots.items ≡ Some x ∷ []) }
-    ensures { slots.items ≡ Some result ∷ [] }
-{
-    let mut slots = slots;
-    let Some(slot) = slots.pop() else {
-        unreachable!()
-    };
-    slots.destroy_empty();
-    slot.unwrap()
-}
-
-/// Whenever the rule of a guarded value holds, no two of its passes have a guard, and while one has, the value is out of its slot. Says so
-/// of the rule alone, and does nothing.
+/// Whenever the rule of a guarded value holds, its word is how many of its passes have a guard, which no two have, and while one has, the
+/// value is out of its slot. Says so of the rule alone, and does nothing.
 pub fn one_holder_at_most<T>()
     ensures { OneHolderAtMost T }
 {}

@@ -7,7 +7,6 @@
 mod guard;
 mod guarded;
 mod pass;
-mod rule;
 mod shares;
 mod when;
 mod word;
@@ -15,5 +14,4 @@ mod word;
 pub use guard::Guard;
 pub use guarded::{Guarded, grants_are_of_a_run, one_holder_at_most};
 pub use pass::GuardedPass;
-pub use rule::GuardedRule;
 pub use word::GuardedWord;

@@ -1,10 +1,10 @@
 //! The word that wait and wake closures see.
 ghost use Rattle.std.specs.Prelude.{◌≡◌};
 
-use crate::rule::GuardedRule;
 use atomic_table::Shared;
 use running_model::{Sealed, Shown};
 use running_passes::{View, Watched, low_half};
+use running_spin_lock::ValueRule;
 use running_tallies::PlayedMutex;
 use std::sync::Wait;
 use std::time::Duration;
@@ -12,7 +12,7 @@ use std::time::Duration;
 /// The word of a guarded value, as wait and wake closures see it. It can be loaded and slept on, and no more.
 #[derive(Drop)]
 pub struct GuardedWord<'t, T> {
-    shared: &'t Shared<Option<T>, View<PlayedMutex>, (), GuardedRule>,
+    shared: &'t Shared<Option<T>, View<PlayedMutex>, (), ValueRule>,
     ghost one_word: { shared.now.table_id.words ≡ 1 },
 }
 
@@ -31,7 +31,7 @@ impl<'t, T> GuardedWord<'t, T> {
     /// The word of this table, sealed. Nothing else makes one.
     #[inline(always)]
     pub(crate) fn sealed(
-        shared: &'t Shared<Option<T>, View<PlayedMutex>, (), GuardedRule>,
+        shared: &'t Shared<Option<T>, View<PlayedMutex>, (), ValueRule>,
     ) -> Sealed<GuardedWord<'t, T>>
         requires one_word { shared.now.table_id.words ≡ 1 }
         ensures object { object_shown result.shown ≡ shared.now.table_id }

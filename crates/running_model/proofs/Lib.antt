@@ -6,6 +6,7 @@ pub mod Asides
 pub mod Same
 pub mod Ready
 pub mod Updates
+pub mod Carrying
 pub mod Steps
 pub mod Opening
 pub mod Attempts

@@ -5,6 +5,7 @@ pub mod SlotLaws
 pub mod Words
 pub mod Plays
 pub mod Passes
+pub mod Carrying
 pub mod Stages
 pub mod Counts
 pub mod Tries

@@ -3,7 +3,7 @@ pub use Rattle.running_passes.specs.Answers.{HasAsked}
 pub use Rattle.running_passes.specs.Passes.{part_of, sights_of, IsSamePass, view, tally_of, object_of}
 pub use Rattle.running_passes.specs.Sights.{HasLooked, HasOnlyRead, HasWritten, seen, seen_instead, stale}
 pub use Rattle.running_passes.specs.Tallies.{IsTally}
-pub use Rattle.running_passes.specs.Views.{looked, missed, wrote, view_of, Updates}
+pub use Rattle.running_passes.specs.Views.{looked, missed, wrote, view_of, Updates, IsCounted}
 pub use Rattle.running_passes.specs.declared.part.Part.{Part}
 pub use Rattle.running_passes.specs.declared.part.Sights.{Sights}
 pub use Rattle.running_passes.specs.declared.pass.Pass.{Pass}

@@ -4,6 +4,7 @@
 
 mod acting;
 mod calling;
+mod carries;
 mod choosing;
 mod counts;
 mod played;
@@ -15,6 +16,7 @@ mod tries;
 pub mod turn;
 mod wait;
 
+pub use carries::{Carries, CarryRule};
 pub use counts::{Counts, CountsByActs};
 pub use played::{Parties, Played};
 pub use script::Script;

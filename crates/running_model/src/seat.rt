@@ -1,23 +1,22 @@
 //! A call under way of a pass that is out with its seat, as where a value lies in a slot beside the word.
-ghost use Rattle.std.specs.Prelude.{◌≡◌, ◌<◌, ◌==◌};
+ghost use Rattle.std.specs.Prelude.{◌≡◌, ◌<◌};
 ghost use Rattle.std.specs.Fn.{FnReturnsAt};
-ghost use mathlib.Core.Option.{none};
-ghost use prog.Atomic.{either};
-ghost use Rattle.atomic_table.specs.Table.{Allows, step};
 ghost use Rattle.model_events.specs.declared.row.Intent.TheVariants as intents;
 ghost use Rattle.running_passes.specs.Answers.{MayAnswer};
-ghost use Rattle.running_model.specs.Plays.{MayStep, Went};
+ghost use Rattle.running_model.specs.Passes.{HasNeeds, SteppedByAct};
+ghost use Rattle.running_model.specs.Plays.{MayStep};
 ghost use Rattle.running_model.specs.Tries.{IsToWake, StandsToWait};
 ghost use Rattle.running_model.specs.Turns.{IsOver, IsOverAside, action_heard, seat_in};
 
 use crate::calling::{answer, call};
+use crate::carries::{Carries, CarryRule};
 use crate::played::Played;
 use crate::script::Script;
 use crate::turn::{Aborted, AfterAside, Begins, Continued, Continues, Goes, Way};
 use crate::wait::{Sealed, Shown};
-use atomic_table::{Play, Seat, Shared, TableRule};
+use atomic_table::{Play, Seat, Shared};
 use model_events::WaitAction;
-use running_passes::View;
+use running_passes::{Tally, View};
 use std::marker::PhantomData;
 
 /// A call under way, which comes to its next step by `W`, as a `Turn` is. It has the seat of its pass, and the call's last turn gives it
@@ -55,46 +54,49 @@ pub fn begin_held<L, S, T>(seat: Seat<S, View<T>>) -> SeatTurn<S, T, Continues<L
     }
 }
 
-/// A step that the table of the model has, of a call that comes to it by `W`, and what else it tells of the seat.
-struct Step<M, P, V, W, D> {
+/// A step that the table of the model has, of a call that comes to it by `W`: its act says what the pass counts, and that which slots its
+/// seat carries.
+struct StepByAct<M, P, V, W, G> {
     of: PhantomData<M>,
     at: PhantomData<P>,
     over: PhantomData<V>,
     by: PhantomData<W>,
-    tells: PhantomData<D>,
+    carries: PhantomData<G>,
 }
 
-impl<S, P, V, M: Script<(), P, V>, C, W: Way<V>, D: Play<S, View<Played<M, P, V, C>>>> Play<
+impl<S, P, V, M: Script<(), P, V>, C: Tally, W: Way<V>, G: Carries<S, M, P, V, C>> Play<
     S,
     View<Played<M, P, V, C>>,
-> for Step<M, P, V, W, D> {
-    ghost then = { λ at before found after. Went (M.model tt) W.coming before.0.tally.parties found after.0.tally.parties × D.then at before found after };
+> for StepByAct<M, P, V, W, G> {
+    ghost then = { λ _ before found after. SteppedByAct (M.model tt) C.add G.follow G.sees G.after W.coming before.0 found after.0 × G.carries after.0.tally.counts after.1 };
 }
 
 impl<S, M, P, V, C, W> SeatTurn<S, Played<M, P, V, C>, W> {
     /// The swap that the table has: it puts `to`, and answers what it found.
     #[inline(always)]
-    pub fn swap<R, D>(
+    pub fn swap<G>(
         self,
-        at: &Shared<S, View<Played<M, P, V, C>>, (), R>,
+        at: &Shared<S, View<Played<M, P, V, C>>, (), CarryRule<G>>,
         word: usize,
         to: u64,
     ) -> (u64, SeatTurn<S, Played<M, P, V, C>, Goes>)
     where
         M: Script<(), P, V>,
+        C: Tally,
         W: Way<V>,
-        R: TableRule<S, View<Played<M, P, V, C>>, ()>,
-        D: Play<S, View<Played<M, P, V, C>>>,
+        G: Carries<S, M, P, V, C>,
         requires own { self.seat.table_id ≡ at.now.table_id }
         requires inside { word < at.now.table_id.words }
         requires may { MayStep (M.model tt) M.names W.coming word (λ w. intents.Swap w to) self.seat.me.0.tally.parties }
-        requires update { Allows (R.holds at.now.key) at.now.table_id.slots self.seat.id self.seat.me word (λ _. to) (λ found after. Went (M.model tt) W.coming self.seat.me.0.tally.parties found after.0.tally.parties × D.then (step at.now.table_id.slots word to 0 none) self.seat.me found after) }
+        requires needs { HasNeeds M.names word G.needs (λ w. intents.Swap w to) self.seat.me.0.tally.counts }
+        requires alive { 0 < self.seat.me.0.part.share }
+        requires carries { G.carries self.seat.me.0.tally.counts self.seat.me.1 }
         ensures same { (result.1.seat.table_id ≡ self.seat.table_id) × (result.1.seat.id ≡ self.seat.id) }
-        ensures went { Went (M.model tt) W.coming self.seat.me.0.tally.parties result.0 result.1.seat.me.0.tally.parties }
-        ensures told { D.then (step at.now.table_id.slots word to 0 none) self.seat.me result.0 result.1.seat.me }
+        ensures stepped { SteppedByAct (M.model tt) C.add G.follow G.sees G.after W.coming self.seat.me.0 result.0 result.1.seat.me.0 }
+        ensures carries { G.carries result.1.seat.me.0.tally.counts result.1.seat.me.1 }
     {
         let SeatTurn { mut seat, by: _ } = self;
-        let found = at.swap::<Step<M, P, V, W, D>>(&mut seat, word, to);
+        let found = at.swap::<StepByAct<M, P, V, W, G>>(&mut seat, word, to);
         let next = SeatTurn {
             seat,
             by: PhantomData,
@@ -104,28 +106,30 @@ impl<S, M, P, V, C, W> SeatTurn<S, Played<M, P, V, C>, W> {
 
     /// The compare-exchange that the table has: it puts `to` where it finds `from`, and answers what it found.
     #[inline(always)]
-    pub fn exchange<R, D>(
+    pub fn exchange<G>(
         self,
-        at: &Shared<S, View<Played<M, P, V, C>>, (), R>,
+        at: &Shared<S, View<Played<M, P, V, C>>, (), CarryRule<G>>,
         word: usize,
         from: u64,
         to: u64,
     ) -> (u64, SeatTurn<S, Played<M, P, V, C>, Goes>)
     where
         M: Script<(), P, V>,
+        C: Tally,
         W: Way<V>,
-        R: TableRule<S, View<Played<M, P, V, C>>, ()>,
-        D: Play<S, View<Played<M, P, V, C>>>,
+        G: Carries<S, M, P, V, C>,
         requires own { self.seat.table_id ≡ at.now.table_id }
         requires inside { word < at.now.table_id.words }
         requires may { MayStep (M.model tt) M.names W.coming word (λ w. intents.Exchange w from to) self.seat.me.0.tally.parties }
-        requires update { Allows (R.holds at.now.key) at.now.table_id.slots self.seat.id self.seat.me word (λ n. either (n == from) to n) (λ found after. Went (M.model tt) W.coming self.seat.me.0.tally.parties found after.0.tally.parties × D.then (step at.now.table_id.slots word from to none) self.seat.me found after) }
+        requires needs { HasNeeds M.names word G.needs (λ w. intents.Exchange w from to) self.seat.me.0.tally.counts }
+        requires alive { 0 < self.seat.me.0.part.share }
+        requires carries { G.carries self.seat.me.0.tally.counts self.seat.me.1 }
         ensures same { (result.1.seat.table_id ≡ self.seat.table_id) × (result.1.seat.id ≡ self.seat.id) }
-        ensures went { Went (M.model tt) W.coming self.seat.me.0.tally.parties result.0 result.1.seat.me.0.tally.parties }
-        ensures told { D.then (step at.now.table_id.slots word from to none) self.seat.me result.0 result.1.seat.me }
+        ensures stepped { SteppedByAct (M.model tt) C.add G.follow G.sees G.after W.coming self.seat.me.0 result.0 result.1.seat.me.0 }
+        ensures carries { G.carries result.1.seat.me.0.tally.counts result.1.seat.me.1 }
     {
         let SeatTurn { mut seat, by: _ } = self;
-        let found = at.compare_exchange::<Step<M, P, V, W, D>>(&mut seat, word, from, to);
+        let found = at.compare_exchange::<StepByAct<M, P, V, W, G>>(&mut seat, word, from, to);
         let next = SeatTurn {
             seat,
             by: PhantomData,
@@ -133,29 +137,31 @@ impl<S, M, P, V, C, W> SeatTurn<S, Played<M, P, V, C>, W> {
         (found, next)
     }
 
-    /// The store that the table has. It tells of what was stored, and not of what it found.
+    /// The store that the table has.
     #[inline(always)]
-    pub fn store<R, D>(
+    pub fn store<G>(
         self,
-        at: &Shared<S, View<Played<M, P, V, C>>, (), R>,
+        at: &Shared<S, View<Played<M, P, V, C>>, (), CarryRule<G>>,
         word: usize,
         put: u64,
     ) -> SeatTurn<S, Played<M, P, V, C>, Goes>
     where
         M: Script<(), P, V>,
+        C: Tally,
         W: Way<V>,
-        R: TableRule<S, View<Played<M, P, V, C>>, ()>,
-        D: Play<S, View<Played<M, P, V, C>>>,
+        G: Carries<S, M, P, V, C>,
         requires own { self.seat.table_id ≡ at.now.table_id }
         requires inside { word < at.now.table_id.words }
         requires may { MayStep (M.model tt) M.names W.coming word (λ w. intents.Store w put) self.seat.me.0.tally.parties }
-        requires update { Allows (R.holds at.now.key) at.now.table_id.slots self.seat.id self.seat.me word (λ _. put) (λ _ after. Went (M.model tt) W.coming self.seat.me.0.tally.parties put after.0.tally.parties × D.then (step at.now.table_id.slots word put 0 none) self.seat.me put after) }
+        requires needs { HasNeeds M.names word G.needs (λ w. intents.Store w put) self.seat.me.0.tally.counts }
+        requires alive { 0 < self.seat.me.0.part.share }
+        requires carries { G.carries self.seat.me.0.tally.counts self.seat.me.1 }
         ensures same { (result.seat.table_id ≡ self.seat.table_id) × (result.seat.id ≡ self.seat.id) }
-        ensures went { Went (M.model tt) W.coming self.seat.me.0.tally.parties put result.seat.me.0.tally.parties }
-        ensures told { D.then (step at.now.table_id.slots word put 0 none) self.seat.me put result.seat.me }
+        ensures stepped { SteppedByAct (M.model tt) C.add G.follow G.sees G.after W.coming self.seat.me.0 put result.seat.me.0 }
+        ensures carries { G.carries result.seat.me.0.tally.counts result.seat.me.1 }
     {
         let SeatTurn { mut seat, by: _ } = self;
-        at.store::<Step<M, P, V, W, D>>(&mut seat, word, put);
+        at.store::<StepByAct<M, P, V, W, G>>(&mut seat, word, put);
         SeatTurn {
             seat,
             by: PhantomData,

@@ -1,5 +1,5 @@
 -- What holds whenever the rule of a mutex does, and what a step changes in a pass.
-use Rattle.running_mutex.specs.Names.{◌≡◌, ℕ, ◌≤◌, [], ◌∷◌, slice_index, State, View, missed, wrote, sum_of, IsCounted, Word, MutexPlace, mutex_model, Played, none_played, both_played, PlaysAndCounts, IsOfARun, Holds, MutexScript, AreHoldsIn, both_holds, no_holds, granted, released}
+use Rattle.running_mutex.specs.Names.{◌≡◌, ℕ, ◌≤◌, [], ◌∷◌, slice_index, State, View, missed, wrote, sum_of, IsCounted, Word, MutexPlace, mutex_table, mutex_model, Played, none_played, both_played, PlaysAndCounts, IsOfARun, Holds, MutexScript, AreHoldsIn, both_holds, no_holds, granted, released}
 use mathlib.Core.Option.{some}
 use lib.ListN.{get_elem?}
 
@@ -9,12 +9,12 @@ PlayedMutex = Played MutexScript MutexPlace ℕ Holds
 
 -- the rule of a mutex holds
 abbrev pub IsRuled : State (Unit {0}) (View PlayedMutex) → Type 0
-IsRuled s = IsCounted (none_played no_holds) (both_played both_holds) (PlaysAndCounts mutex_model (Word.State ∷ []) (λ _ _ _. Unit {0}) AreHoldsIn) s
+IsRuled s = IsCounted (none_played no_holds) (both_played both_holds) (PlaysAndCounts mutex_model (Word.State ∷ []) (λ _ _ _. Unit {0}) (AreHoldsIn mutex_table)) s
 
 -- All passes are the parties of a run, have the holds that stand after it, and were granted as often as calls were in it. The word is how many
 -- holds they have, of which there is one at most.
 pub record AreHeld (s : State (Unit {0}) (View PlayedMutex)) : Type 0 where
-  pub run : IsOfARun mutex_model AreHoldsIn (sum_of (none_played no_holds) (both_played both_holds) s.views)
+  pub run : IsOfARun mutex_model (AreHoldsIn mutex_table) (sum_of (none_played no_holds) (both_played both_holds) s.views)
   pub word : slice_index s.words 0 ≡ (sum_of (none_played no_holds) (both_played both_holds) s.views).counts.holds
   pub one : (sum_of (none_played no_holds) (both_played both_holds) s.views).counts.holds ≤ 1
 

@@ -1,10 +1,10 @@
 -- The steps of a spin lock are those of its table.
-use Rattle.running_spin_lock.specs.Names.{MatchBool, Word, Call, Act, Event, Then, Answer, HoldKind, Intent, SpinPlace, carried_out, PendingCall, call_of, spin_table, spin_intent, SpinStep, Slot, Parties, all_of, Coming, Going, Beginning, Continuing, ComesBy, IsHolding, Led, HasCalled, MayStep, IsStepAt, Went, grants_by}
-use Rattle.running_spin_lock.proofs.Names.{◌≡◌, ◌≢◌, ◌≤◌, ◌==◌, ℕ, zero, suc, Bool, true, false, cond, refl, sym, ap, subst, ◌∙◌, List, [], ◌∷◌, Option, Some, None, inl, inr, arith, ne_eqb, is_over}
-use Rattle.running_spin_lock.specs.SpinLawful.{spin_model, spin_lawful}
+use Rattle.running_spin_lock.specs.Names.{MatchBool, Word, Call, Answer, HoldKind, Intent, SpinPlace, spin_intent, seen, Slot, Parties, all_of, Coming, Going, Beginning, Continuing, ComesBy, IsHolding, Led, HasCalled, MayStep, Went}
+use Rattle.running_spin_lock.proofs.Names.{◌≡◌, ◌≢◌, ℕ, zero, suc, Bool, true, false, refl, sym, subst, List, [], ◌∷◌, Some, None, inl, inr, ne_eqb, is_over}
+use Rattle.running_spin_lock.specs.SpinLawful.{spin_model}
 use Rattle.running_model.specs.Turns.{IsOver}
 use Rattle.running_model.proofs.Holding.{holding_told, holding_is}
-use Rattle.running_model.proofs.Steps.{next_step}
+use Rattle.running_tallies.proofs.OneHold.{IsTry}
 use Rattle.running_spin_lock.specs.SpinParties.{IsWaiting, IsSpinning, IsGranted, HasLock, Unlocks}
 
 -- how the calls begin
@@ -47,10 +47,8 @@ may_begin call p waits = may_swap _ call SpinPlace.Lock (all_of p) p refl (lock_
 pub may_spin : (call : Call ℕ) (done : List (Slot ℕ)) (p : Parties ℕ) → IsSpinning call done p → MaySwap Going p
 may_spin call done p at = may_swap Going call SpinPlace.Lock done p refl at
 
--- it leaves a 1
-pub one_stays : (n : ℕ) → n ≢ 0 → n ≤ 1 → 1 ≡ n
-one_stays zero some one = absurd (some refl)
-one_stays (suc n) some one = omega (arith, one)
+pub swaps : IsTry (λ w. Intent.Swap w 1) (λ s. seen s 1)
+swaps = record { tells = λ w memory. refl; grants = λ call v. refl; sees = λ call v. refl }
 
 -- where it leads
 
@@ -111,25 +109,3 @@ unlocks p q went = λ done holding. went Call.Unlock SpinPlace.Release (Some Hol
 
 pub unlock_is_over : (p q : Parties ℕ) → HasLock p → Unlocks p q → IsOver spin_model q
 unlock_is_over p q has unlocked = is_over spin_model Call.Unlock Answer.Done None p.resting q (unlocked p.resting (holding_told spin_model HoldKind.Write p has))
-
--- in a run only a locking call swaps, and it takes the lock by a swap that found 0
-pub swap_grants : (call : Call ℕ) (place : SpinPlace) (hold : Option HoldKind) (past : List (Event ℕ)) (e : Event ℕ) (name : Word) (found : ℕ) → IsStepAt spin_model call place hold found past e → Word.State ≡ name →
-    e.act ≡ carried_out (Intent.Swap name 1) (λ _. found) → grants_by spin_table HoldKind.Write e.act (call_of e.party past) ≡ cond (found == 0) 1 0
-swap_grants call place hold past e name found step named act =
-    let c : PendingCall ℕ = step.pending in
-    let law = (spin_lawful step.parties (e ∷ past) step.run).law.steps in
-    let is_swap : e.act ≡ Act.Swap Word.State found 1 = act ∙ ap (λ w. Act.Swap w found 1) (sym named) in
-    let next : SpinStep c.call c.own (Act.Swap Word.State found 1) e.then = next_step SpinStep past e c (Act.Swap Word.State found 1) is_swap refl step.under_way law in
-    subst (λ (a : Act ℕ). grants_by spin_table HoldKind.Write a (call_of e.party past) ≡ cond (found == 0) 1 0) (sym is_swap)
-    (subst (λ (k : Option (PendingCall ℕ)). grants_by spin_table HoldKind.Write (Act.Swap Word.State found 1) k ≡ cond (found == 0) 1 0) (sym step.under_way) (by_call c.call c.own found e.then next))
-  where
-    by_call : (called : Call ℕ) (own : List (Event ℕ)) (old : ℕ) (outcome : Then ℕ) → SpinStep called own (Act.Swap Word.State old 1) outcome →
-        grants_by spin_table HoldKind.Write (Act.Swap Word.State old 1) (Some (record { call = called; own = own })) ≡ cond (old == 0) 1 0
-    by_call Call.Lock own zero outcome next = refl
-    by_call Call.Lock own (suc n) outcome next = rw (ne_eqb (suc n) 0 (λ same. absurd (omega (arith, same)))) refl
-    by_call Call.BlockingLock own zero outcome next = refl
-    by_call Call.BlockingLock own (suc n) outcome next = rw (ne_eqb (suc n) 0 (λ same. absurd (omega (arith, same)))) refl
-    by_call Call.TryLock own zero outcome next = refl
-    by_call Call.TryLock own (suc n) outcome next = rw (ne_eqb (suc n) 0 (λ same. absurd (omega (arith, same)))) refl
-    by_call Call.Unlock own old outcome next = let same : ◌≡◌ {A = Act ℕ} (Act.Swap Word.State old 1) (Act.Store Word.State 0) = next.1 in absurd cc
-    by_call other own old outcome next = absurd next

@@ -1,6 +1,7 @@
 pub mod Names
 pub mod ValueRule
 pub mod ValueSteps
+pub mod ValueMoves
 pub mod SpinLawful
 pub mod SpinRule
 pub mod SpinParties

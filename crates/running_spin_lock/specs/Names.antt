@@ -7,8 +7,10 @@ pub use Rattle.running_passes.specs.Views.{spent_view, sum_of, IsCounted, view_o
 pub use Rattle.running_passes.specs.declared.part.Sights.{Sights}
 pub use Rattle.running_passes.specs.declared.view.View.{View}
 pub use Rattle.running_model.specs.Models.{Model}
-pub use Rattle.running_model.specs.Passes.{none_played, both_played, core_played, PlaysAndCounts, IsOfARun, counted_in, played, played_add_up}
+pub use Rattle.running_model.specs.Passes.{none_played, both_played, core_played, IsOfARun, Told, counted_in, played, played_add_up}
+pub use Rattle.running_model.specs.Carrying.{MovesByCounts, PlaysAndCarries}
 pub use Rattle.running_model.specs.Plays.{IsAt, IsHolding, HasEnded, HasCalled, Coming, Went, Going, Beginning, Continuing, ComesBy, Led, MayStep, IsStepAt}
+pub use Rattle.running_model.specs.Sees.{sights_after}
 pub use Rattle.running_model.specs.Slots.{Slot, Parties, all_of}
 pub use Rattle.running_model.specs.Sums.{grants_by, next_grants}
 pub use Rattle.running_model.specs.declared.played.Played.{Played}
@@ -27,6 +29,6 @@ pub use Rattle.model_events.specs.declared.row.Intent.{Intent}
 pub use Rattle.model_spin.specs.Law.{KeepsSpin, SpinStep}
 pub use Rattle.model_spin.specs.Table.{spin_table, spin_intent}
 pub use Rattle.model_spin.specs.declared.SpinPlace.{SpinPlace}
-pub use Rattle.running_tallies.specs.MutexRule.{no_holds, both_holds, granted, released, AreGrantsIn}
+pub use Rattle.running_tallies.specs.MutexRule.{no_holds, both_holds, granted, released, holds_after, AreHoldsIn}
 pub use Rattle.running_tallies.specs.declared.mutex.Holds.{Holds}
 pub use lib.ListN.{get_elem?}

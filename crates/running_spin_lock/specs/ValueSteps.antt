@@ -1,6 +1,5 @@
--- What a step on the word of a lock that guards a value tells of the seat that makes it, and what several steps change in what the seat
--- knows.
-use Rattle.running_spin_lock.specs.Names.{◌≡◌, ◌≢◌, ℕ, List, [], ◌∷◌, Bool, true, false, ◌==◌, ◌&&◌, Option, Some, None, MatchBool, Me, Call, Answer, HoldKind, Sights, View, IsWhole, HasOnlyRead, HasWritten, view_of, wrote, Model, Played, Coming, HasCalled, Went, counted_in, Holds, granted, released}
+-- What a step on the word of a lock that guards a value, and what several change in what the seat knows that makes them.
+use Rattle.running_spin_lock.specs.Names.{◌≡◌, ◌≢◌, ℕ, List, [], ◌∷◌, Bool, true, false, ◌==◌, ◌&&◌, Option, Some, None, MatchBool, Call, Answer, HoldKind, Sights, View, HasOnlyRead, HasWritten, view_of, wrote, Model, Played, Coming, HasCalled, Went, counted_in, Holds, granted, released}
 
 abbrev pub locked : View Holds → View Holds
 locked v = wrote v (granted v.tally)
@@ -58,20 +57,6 @@ module _ {M Q : Type 0} where
     pub counts : w.tally.counts ≡ v.tally.counts
     pub part : w.part ≡ v.part
     pub saw : HasOnlyRead v.sights w.sights
-
-  -- What a step on the word tells of the seat that made it, beside where it led the call.
-  module _ {T : Type 0} where
-    -- A try takes the slot with the value where it found 0; else this is seen of it. Where no other pass is left, only the pass's own hold
-    -- can be on.
-    pub record Tried (see : Sights → Sights) (me : Me (Option T) (View (Played M Q ℕ Holds))) (found : ℕ) (after : Me (Option T) (View (Played M Q ℕ Holds))) : Type 0 where
-      pub free : found ≡ 0 → Locks me.0 after.0 × HasValue after.1
-      pub taken : found ≢ 0 → Sees see me.0 after.0 × (after.1 ≡ me.1)
-      pub alone : IsWhole me.0.part → me.0.tally.counts.holds ≡ 0 → found ≡ 0
-
-    -- a store of 0 by the seat that has the value gives its slot back
-    pub record Stored (me after : Me (Option T) (View (Played M Q ℕ Holds))) : Type 0 where
-      pub off : Lets me.0 after.0
-      pub gave : after.1 ≡ []
 
   -- The steps of a table, which keeps a law.
   module _ {P : Type 0} (m : Model ℕ P) where

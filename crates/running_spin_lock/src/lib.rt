@@ -4,7 +4,7 @@
 //! and 1 where it is locked; the value lies in a slot beside the word, and is out of it while a guard has it. Calls that answer a guard
 //! take the pass first, since the guard borrows it.
 //!
-//! Its passes play the spin lock's model. The rule of a lock that guards a value, whatever model its passes play, stands here too.
+//! Its passes play the spin lock's model. The rule and the slot of a lock that guards a value, whatever model its passes play, stand here too.
 #![tactic(auto)]
 
 mod guard;
@@ -13,11 +13,12 @@ mod poison;
 mod rule;
 mod script;
 mod shares;
+pub mod slot;
 mod spin_lock;
 
 pub use guard::SpinLockGuard;
 pub use pass::SpinPass;
 pub use poison::{LockResult, PoisonError};
-pub use rule::ValueRule;
+pub use rule::{HeldValue, ValueRule};
 pub use script::{PlayedSpin, SpinScript};
 pub use spin_lock::{SpinLock, grants_are_of_a_run, one_holder_at_most};

@@ -1,23 +1,36 @@
 //! The rule over all passes of a lock that guards a value.
-ghost use Rattle.running_passes.specs.Views.{first_view, IsCounted};
-ghost use Rattle.running_spin_lock.specs.ValueRule.{none_held, both_held, ValueAgrees};
+ghost use Rattle.running_model.specs.Sees.{sights_after};
+ghost use Rattle.running_tallies.specs.MutexRule.{AreHoldsIn, holds_after, holds_needed};
+ghost use Rattle.running_tallies.specs.MutexTally.{holds_go_on, holds_stay};
+ghost use Rattle.running_spin_lock.specs.ValueRule.{LiesByHolds, CarriesByHolds};
+ghost use Rattle.running_spin_lock.specs.ValueMoves.{value_moves};
 
-use atomic_table::TableRule;
-use running_model::{Played, Script};
-use running_passes::View;
-use running_tallies::Holds;
-use std::marker::PhantomData;
+use running_model::{Carries, CarryRule};
+use running_tallies::{ForOne, Holds};
 
-/// The rule of the table that a lock with a value lies in, whose passes play this model: its word is that of a run of the model, in
-/// which the passes are parties; and the value is in its slot exactly where nobody has a hold.
-pub struct ValueRule<M, P> {
-    of: PhantomData<M>,
-    at: PhantomData<P>,
+/// The value of a lock with one holder at most: it is with the pass that has the hold, and in its slot where nobody has one.
+pub struct HeldValue;
+
+impl<T, P, M: ForOne<P>> Carries<Option<T>, M, P, u64, Holds> for HeldValue {
+    ghost follow = { AreHoldsIn (M.model tt).table };
+
+    ghost stays = { holds_stay (M.model tt).table };
+
+    ghost sees = { sights_after };
+
+    ghost after = { holds_after };
+
+    ghost needs = { holds_needed };
+
+    ghost goes_on = { holds_go_on (M.model tt) M.for_one };
+
+    ghost lies = { LiesByHolds };
+
+    ghost carries = { CarriesByHolds };
+
+    ghost moves = { value_moves (M.model tt).table };
 }
 
-impl<T, P, M: Script<(), P, u64>> TableRule<Option<T>, View<Played<M, P, u64, Holds>>, ()>
-    for ValueRule<M, P> {
-    ghost holds = { λ key. IsCounted none_held both_held (ValueAgrees (M.model key)) };
-
-    ghost first = { λ _. first_view none_held };
-}
+/// The rule of the table that a lock with a value lies in: its word is that of a run of the lock's model, in which the passes are parties
+/// and which says what they count; and the value lies where their holds say.
+pub type ValueRule = CarryRule<HeldValue>;

@@ -2,7 +2,7 @@
 
 use model_spin::SpinPlace;
 use running_model::{Played, Script};
-use running_tallies::Holds;
+use running_tallies::{ForOne, Holds};
 
 /// The model that a spin lock plays: its one word is the lock's.
 pub struct SpinScript;
@@ -22,6 +22,15 @@ impl Script<(), SpinPlace, u64> for SpinScript {
 
     // No call of a spin lock asks a closure.
     ghost handed = { λ _. words.State };
+}
+
+impl ForOne<SpinPlace> for SpinScript {
+    ghost use Rattle.std.proofs.Common.{refl};
+    ghost use Rattle.running_spin_lock.specs.SpinLawful.{spin_is_for_one};
+
+    ghost one_word = { refl };
+
+    ghost for_one = { spin_is_for_one };
 }
 
 /// What a pass of a spin lock is in its model, and counts beside.

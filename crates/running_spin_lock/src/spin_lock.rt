@@ -7,12 +7,11 @@ ghost use Rattle.model_events.specs.declared.hold.HoldKind.TheVariants as kinds;
 ghost use Rattle.model_events.specs.declared.row.Intent.TheVariants as intents;
 ghost use Rattle.running_spin_lock.specs.SpinLawful.{spin_model};
 ghost use Rattle.running_passes.specs.Parts.{IsWhole};
-ghost use Rattle.running_passes.specs.Sights.{seen};
 ghost use Rattle.running_passes.specs.Views.{first_view};
 ghost use Rattle.running_model.specs.Slots.{Slot};
 ghost use Rattle.running_model.specs.Plays.{Beginning, MayStep};
 ghost use Rattle.running_spin_lock.specs.ValueRule.{none_held};
-ghost use Rattle.running_spin_lock.specs.ValueSteps.{Locks, Lets, Enters, Tries, Tried, Stored, HasValue, has_vacant_slot};
+ghost use Rattle.running_spin_lock.specs.ValueSteps.{Locks, Lets, Enters, Tries, HasValue, has_vacant_slot};
 ghost use Rattle.running_spin_lock.specs.SpinRule.{GrantsAreOfARun, OneHolderAtMost};
 ghost use Rattle.running_spin_lock.specs.SpinParties.{IsWaiting, IsSpinning, IsGranted, HasLock};
 ghost use Rattle.running_spin_lock.specs.SpinSteps.{SeesLocked, HasPlayed, HasPlayedUnlock};
@@ -22,9 +21,10 @@ use crate::pass::SpinPass;
 use crate::poison::LockResult;
 use crate::rule::ValueRule;
 use crate::script::{PlayedSpin, SpinScript};
-use atomic_table::{Play, Refused, Seat, Table};
+use crate::slot::{self, FREE, LOCKED};
+use atomic_table::{Seat, Table};
 use model_spin::SpinPlace;
-use running_model::seat::{SeatTurn, begin_held, begin_new};
+use running_model::seat::{SeatTurn, begin_new};
 use running_model::turn::{Called, Goes, Way};
 use running_passes::View;
 use std::alloc::{AllocError, Allocator, Global};
@@ -34,23 +34,9 @@ use std::sync::Wait;
 /// A lock with one holder at most, which guards a value. It may be shared by threads where the value may go from one to another.
 #[derive(Drop)]
 pub struct SpinLock<T, A: Allocator = Global> {
-    pub(crate) table: Table<Option<T>, View<PlayedSpin>, (), ValueRule<SpinScript, SpinPlace>, A>,
+    pub(crate) table: Table<Option<T>, View<PlayedSpin>, (), ValueRule, A>,
     ghost one_word: { table.shared.table_id.words ≡ 1 },
     ghost one_slot: { table.shared.table_id.slots ≡ 1 },
-}
-
-/// What a swap of 1 tells of its seat.
-struct Swap;
-
-impl<T> Play<Option<T>, View<PlayedSpin>> for Swap {
-    ghost then = { λ _ me found after. Tried (λ s. seen s 1) me found after };
-}
-
-/// What a store of 0 tells of its seat.
-struct Release;
-
-impl<T> Play<Option<T>, View<PlayedSpin>> for Release {
-    ghost then = { λ _ me _ after. Stored me after };
 }
 
 /// A `TryLock`.
@@ -98,11 +84,6 @@ impl Waiting for BlockingLockCall {
     ghost waits = { inr refl };
 }
 
-/// The word of a locked spin lock, and of a free one.
-const LOCKED: u64 = 1;
-
-const FREE: u64 = 0;
-
 impl<T, A: Allocator> SpinLock<T, A> {
     ghost use Rattle.std.specs.Borrow.{sem, RestsIfNone};
     ghost use Rattle.running_spin_lock.specs.contracts.pass.SpinPass.{the_row};
@@ -120,7 +101,7 @@ impl<T, A: Allocator> SpinLock<T, A> {
     {
         let (free, mut seat) = this.try_enter(pass.rise());
         if free {
-            let value = this.take(&mut seat);
+            let value = slot::take(&this.table.shared, &mut seat);
             Some(SpinLockGuard {
                 lock: this,
                 pass,
@@ -180,7 +161,7 @@ impl<T, A: Allocator> SpinLock<T, A> {
         ensures exact { IsAlone pass.old → HasLocked pass.old result }
     {
         let mut seat = this.enter::<C, R>(rt, pass.rise());
-        let value = this.take(&mut seat);
+        let value = slot::take(&this.table.shared, &mut seat);
         SpinLockGuard {
             lock: this,
             pass,
@@ -196,6 +177,7 @@ impl<T, A: Allocator> SpinLock<T, A> {
         turn: SeatTurn<Option<T>, PlayedSpin, W>,
     ) -> (bool, SeatTurn<Option<T>, PlayedSpin, Goes>)
         requires own { turn.seat.table_id ≡ id_of self.now }
+        requires off { turn.seat.me.0.tally.counts.holds ≡ 0 }
         requires no_slot { turn.seat.me.1 ≡ [] }
         requires alive { 0 < turn.seat.me.0.part.share }
         requires may { MayStep spin_model (words.State ∷ []) W.coming 0 (λ w. intents.Swap w 1) turn.seat.me.0.tally.parties }
@@ -203,9 +185,9 @@ impl<T, A: Allocator> SpinLock<T, A> {
         ensures locked { MatchBool result.0 (Locks turn.seat.me.0 result.1.seat.me.0) (SeesLocked turn.seat.me.0 result.1.seat.me.0) }
         ensures slot { MatchBool result.0 (HasValue result.1.seat.me.1) (result.1.seat.me.1 ≡ []) }
         ensures tried { Tries spin_model W.coming result.0 turn.seat.me.0 result.1.seat.me.0 }
-        ensures exact { IsWhole turn.seat.me.0.part → turn.seat.me.0.tally.counts.holds ≡ 0 → result.0 ≡ true }
+        ensures exact { IsWhole turn.seat.me.0.part → result.0 ≡ true }
     {
-        let (found, next) = turn.swap::<_, Swap>(&self.table.shared, 0, LOCKED);
+        let (found, next) = turn.swap(&self.table.shared, 0, LOCKED);
         (found == FREE, next)
     }
 
@@ -216,6 +198,7 @@ impl<T, A: Allocator> SpinLock<T, A> {
         seat: Seat<Option<T>, View<PlayedSpin>>,
     ) -> (bool, SeatTurn<Option<T>, PlayedSpin, Goes>)
         requires own { seat.table_id ≡ id_of self.now }
+        requires off { seat.me.0.tally.counts.holds ≡ 0 }
         requires no_slot { seat.me.1 ≡ [] }
         requires alive { 0 < seat.me.0.part.share }
         requires may { MayStep spin_model (words.State ∷ []) (Beginning L.call) 0 (λ w. intents.Swap w 1) seat.me.0.tally.parties }
@@ -223,7 +206,7 @@ impl<T, A: Allocator> SpinLock<T, A> {
         ensures locked { MatchBool result.0 (Locks seat.me.0 result.1.seat.me.0) (SeesLocked seat.me.0 result.1.seat.me.0) }
         ensures slot { MatchBool result.0 (HasValue result.1.seat.me.1) (result.1.seat.me.1 ≡ []) }
         ensures tried { Tries spin_model (Beginning L.call) result.0 seat.me.0 result.1.seat.me.0 }
-        ensures exact { IsWhole seat.me.0.part → seat.me.0.tally.counts.holds ≡ 0 → result.0 ≡ true }
+        ensures exact { IsWhole seat.me.0.part → result.0 ≡ true }
     {
         self.swap(begin_new::<L, Option<T>, PlayedSpin>(seat))
     }
@@ -235,6 +218,7 @@ impl<T, A: Allocator> SpinLock<T, A> {
         seat: Seat<Option<T>, View<PlayedSpin>>,
     ) -> (bool, Seat<Option<T>, View<PlayedSpin>>)
         requires own { seat.table_id ≡ id_of self.now }
+        requires off { seat.me.0.tally.counts.holds ≡ 0 }
         requires no_slot { seat.me.1 ≡ [] }
         requires alive { 0 < seat.me.0.part.share }
         ensures same { (result.1.table_id ≡ seat.table_id) × (result.1.id ≡ seat.id) }
@@ -242,7 +226,7 @@ impl<T, A: Allocator> SpinLock<T, A> {
         ensures slot { MatchBool result.0 (HasValue result.1.me.1) (result.1.me.1 ≡ []) }
         ensures played { MatchBool result.0 (HasPlayed calls.TryLock answers.Success (Some kinds.Write) seat.me.0 result.1.me.0) (HasPlayed calls.TryLock answers.Interrupted None seat.me.0 result.1.me.0) }
         ensures has { result.0 ≡ true → HasLock result.1.me.0.tally.parties }
-        ensures exact { IsWhole seat.me.0.part → seat.me.0.tally.counts.holds ≡ 0 → result.0 ≡ true }
+        ensures exact { IsWhole seat.me.0.part → result.0 ≡ true }
     {
         let (free, turn) = self.first::<TryLockCall>(seat);
         (free, turn.end())
@@ -256,6 +240,7 @@ impl<T, A: Allocator> SpinLock<T, A> {
         seat: Seat<Option<T>, View<PlayedSpin>>,
     ) -> Seat<Option<T>, View<PlayedSpin>>
         requires own { seat.table_id ≡ id_of self.now }
+        requires off { seat.me.0.tally.counts.holds ≡ 0 }
         requires no_slot { seat.me.1 ≡ [] }
         requires alive { 0 < seat.me.0.part.share }
         ensures same { (result.table_id ≡ seat.table_id) × (result.id ≡ seat.id) }
@@ -263,7 +248,7 @@ impl<T, A: Allocator> SpinLock<T, A> {
         ensures took { HasValue result.me.1 }
         ensures played { HasPlayed C.call answers.Success (Some kinds.Write) seat.me.0 result.me.0 }
         ensures has { HasLock result.me.0.tally.parties }
-        ensures exact { IsWhole seat.me.0.part → seat.me.0.tally.counts.holds ≡ 0 → Locks seat.me.0 result.me.0 }
+        ensures exact { IsWhole seat.me.0.part → Locks seat.me.0 result.me.0 }
     {
         let (free, turn) = self.first::<C>(seat);
         if free {
@@ -280,6 +265,7 @@ impl<T, A: Allocator> SpinLock<T, A> {
         turn: SeatTurn<Option<T>, PlayedSpin, Goes>,
     ) -> SeatTurn<Option<T>, PlayedSpin, Goes>
         requires own { turn.seat.table_id ≡ id_of self.now }
+        requires off { turn.seat.me.0.tally.counts.holds ≡ 0 }
         requires no_slot { turn.seat.me.1 ≡ [] }
         requires alive { 0 < turn.seat.me.0.part.share }
         requires at { (done : List (Slot ℕ)) × IsSpinning C.call done turn.seat.me.0.tally.parties }
@@ -300,19 +286,6 @@ impl<T, A: Allocator> SpinLock<T, A> {
         unreachable!()
     }
 
-    /// The value, out of the slot that the swap took.
-    #[inline(always)]
-    fn take(&self, seat: &mut Seat<Option<T>, View<PlayedSpin>>) -> T
-        requires own { seat.old.table_id ≡ id_of self.now }
-        requires there { HasValue seat.old.me.1 }
-        ensures same { (seat.new.table_id ≡ seat.old.table_id) × (seat.new.id ≡ seat.old.id) }
-        ensures view { seat.new.me.0 ≡ seat.old.me.0 }
-        ensures vacant { has_vacant_slot seat.new.me.1 ≡ true }
-    {
-        let shared = &self.table.shared;
-        shared.exchange(seat, 0, None).unwrap()
-    }
-
     /// Puts the value back into its slot, and stores 0.
     #[inline(always)]
     pub(crate) fn leave(
@@ -330,14 +303,8 @@ impl<T, A: Allocator> SpinLock<T, A> {
         ensures played { HasPlayedUnlock seat.me.0 result.me.0 }
         ensures no_slot { result.me.1 ≡ [] }
     {
-        let mut seat = seat;
         let shared = &self.table.shared;
-        match shared.exchange(&mut seat, 0, Some(value)) {
-            None => {}
-            Some(_) => unreachable!(),
-        }
-        let begun = begin_held::<UnlockCall, Option<T>, PlayedSpin>(seat);
-        let turn = begun.store::<_, Release>(shared, 0, FREE);
+        let turn = slot::release::<T, SpinScript, SpinPlace, UnlockCall>(shared, seat, value);
         turn.end()
     }
 }
@@ -352,35 +319,13 @@ impl<T, A: Allocator + Clone> SpinLock<T, A> {
         ensures first { IfOk result (λ made. view made.1 ≡ first_view none_held) }
         ensures refused { IfErr result (λ refused. refused.1 ≡ value) }
     {
-        let Ok(for_slots) = alloc.clone() else {
-            return Err((AllocError, value));
-        };
-        let Ok(mut slots) = Vec::with_capacity(for_slots, 1) else {
-            return Err((AllocError, value));
-        };
-        slots.push_reserved(Some(value));
-        match Table::new(alloc, &[FREE], slots, &()) {
-            Ok((table, seat)) => Ok((SpinLock { table }, SpinPass::seated(seat))),
-            Err(Refused { slots }) => Err((AllocError, only(slots))),
-        }
+        let (table, seat) = slot::new(alloc, value)?;
+        Ok((SpinLock { table }, SpinPass::seated(seat)))
     }
 }
 
-/// The value in this slot.
-fn only<T, A: Allocator>(slots: Vec<Option<T>, A>) -> T
-    requires { (x : T) × (slots.items ≡ Some x ∷ []) }
-    ensures { slots.items ≡ Some result ∷ [] }
-{
-    let mut slots = slots;
-    let Some(slot) = slots.pop() else {
-        unreachable!()
-    };
-    slots.destroy_empty();
-    slot.unwrap()
-}
-
-/// Whenever the rule of a spin lock holds, no two of its passes have a guard, and while one has, the value is out of its slot. Says so
-/// of the rule alone, and does nothing.
+/// Whenever the rule of a spin lock holds, its word is how many of its passes have a guard, which no two have, and while one has, the
+/// value is out of its slot. Says so of the rule alone, and does nothing.
 pub fn one_holder_at_most<T>()
     ensures { OneHolderAtMost T }
 {}

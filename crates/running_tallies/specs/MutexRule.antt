@@ -1,6 +1,5 @@
--- What a pass of a mutex counts, and what all passes count together: what the acts of the run did.
-use Rattle.running_tallies.specs.Names.{◌≡◌, ℕ, ◌+◌, true, List, length, Call, Act, Event, HoldKind, Table, holds_of, grants_in}
-use Rattle.model_mutex.specs.Table.{mutex_table}
+-- What a pass of a lock with one holder at most counts, and what all passes count together: what the acts of the run did.
+use Rattle.running_tallies.specs.Names.{◌≡◌, ℕ, zero, ◌+◌, ◌≤◌, true, List, length, Word, Call, Act, Event, HoldKind, Table, holds_of, grants_in}
 use Rattle.running_tallies.specs.declared.mutex.Holds.{Holds}
 
 abbrev pub holds : ℕ → ℕ → Holds
@@ -20,10 +19,11 @@ granted t = holds 1 (t.grants + 1)
 abbrev pub released : Holds → Holds
 released t = holds 0 t.grants
 
--- what an act makes of a tally: an exchange that is done grants, and a store releases
+-- what an act makes of a tally: an exchange of the lock's word that is done, or a swap that found 0 there, grants, and a store releases
 abbrev pub holds_after : Act ℕ → Call ℕ → Holds → Holds
-holds_after (Act.Exchange word from to found true) call t = granted t
-holds_after (Act.Store word put) call t = released t
+holds_after (Act.Exchange Word.State from to found true) call t = granted t
+holds_after (Act.Swap Word.State zero put) call t = granted t
+holds_after (Act.Store Word.State put) call t = released t
 holds_after act call t = t
 
 -- and what it needs of it: only a hold that is on is released
@@ -35,7 +35,8 @@ holds_needed act t = Unit {0}
 abbrev pub AreGrantsIn : {V P : Type 0} → Table V P → List (Event V) → Holds → Type 0
 AreGrantsIn t past counts = counts.grants ≡ grants_in t HoldKind.Write past
 
--- and so many holds stand after it
-pub record AreHoldsIn (past : List (Event ℕ)) (t : Holds) : Type 0 where
-  pub holds : t.holds ≡ length (holds_of {T = ℕ} mutex_table past)
-  pub grants : AreGrantsIn mutex_table past t
+-- and so many holds stand after it, of which there is one at most
+pub record AreHoldsIn {P : Type 0} (t : Table ℕ P) (past : List (Event ℕ)) (counts : Holds) : Type 0 where
+  pub holds : counts.holds ≡ length (holds_of t past)
+  pub one : counts.holds ≤ 1
+  pub grants : AreGrantsIn t past counts

@@ -12,7 +12,7 @@ mod wait_word;
 
 pub use barrier::{Arrivals, BarrierScript, PlayedBarrier, Rounds};
 pub use held::{Held, Known};
-pub use mutex::{Holds, MutexScript, PlayedMutex};
+pub use mutex::{ForOne, Holds, MutexScript, PlayedMutex};
 pub use rw_reader::{PlayedRwReader, RwReaderScript};
 pub use rw_writer::{MarkedHolds, PlayedRwWriter, RwWriterScript};
 pub use semaphore::{Permits, PlayedSemaphore, SemaphoreScript};

@@ -23,10 +23,30 @@ impl Script<(), MutexPlace, u64> for MutexScript {
     ghost handed = { λ _. words.State };
 }
 
+/// The model of a lock with one holder at most: its one word is 1 where somebody holds it, and 0 where nobody does.
+pub trait ForOne<P>: Script<(), P, u64> {
+    ghost use Rattle.std.specs.Prelude.{◌≡◌, [], ◌∷◌};
+    ghost use Rattle.model_events.specs.declared.event.Word.TheVariants as words;
+    ghost use Rattle.running_tallies.specs.MutexTally.{IsForOne};
+
+    ghost one_word: { Self.Script.names ≡ words.State ∷ [] };
+
+    ghost for_one: { IsForOne (Self.Script.model tt) };
+}
+
+impl ForOne<MutexPlace> for MutexScript {
+    ghost use Rattle.std.proofs.Common.{refl};
+    ghost use Rattle.running_tallies.specs.MutexTally.{mutex_is_for_one};
+
+    ghost one_word = { refl };
+
+    ghost for_one = { mutex_is_for_one };
+}
+
 /// What a pass of a mutex is in its model, and counts beside.
 pub type PlayedMutex = Played<MutexScript, MutexPlace, u64, Holds>;
 
-/// What a pass of a mutex counts. No value of it is made.
+/// What a pass of a lock with one holder at most counts. No value of it is made.
 pub struct Holds {
     /// How many of the pass's holds stand: 0 or 1.
     pub holds: u64,
@@ -58,21 +78,22 @@ impl Rule<(), ()> for Holds {
 
 /// All passes together have as many holds as stand after the run, and were granted as often as calls were in it.
 impl Counts<(), u64> for Holds {
-    ghost use Rattle.std.proofs.Common.{refl};
+    ghost use Rattle.model_mutex.specs.Table.{mutex_table};
     ghost use Rattle.running_tallies.specs.MutexRule.{AreHoldsIn};
-    ghost use Rattle.running_tallies.specs.MutexTally.{holds_stay};
+    ghost use Rattle.running_tallies.specs.MutexTally.{holds_stay, no_holds_first};
 
-    ghost follow = { λ _. AreHoldsIn };
+    ghost follow = { λ _. AreHoldsIn mutex_table };
 
-    ghost stays = { λ _. holds_stay };
+    ghost stays = { λ _. holds_stay mutex_table };
 
-    ghost opens = { λ _. record { holds = refl; grants = refl } };
+    ghost opens = { λ _. no_holds_first mutex_table };
 }
 
 impl CountsByActs<(), MutexScript, MutexPlace, u64> for Holds {
     ghost use Rattle.running_model.specs.Sees.{sights_after};
     ghost use Rattle.running_tallies.specs.MutexRule.{holds_after, holds_needed};
-    ghost use Rattle.running_tallies.specs.MutexTally.{holds_go_on};
+    ghost use Rattle.running_tallies.specs.MutexScript.{mutex_model};
+    ghost use Rattle.running_tallies.specs.MutexTally.{holds_go_on, mutex_is_for_one};
 
     ghost free = { λ _ _ _ _. tt };
 
@@ -82,5 +103,5 @@ impl CountsByActs<(), MutexScript, MutexPlace, u64> for Holds {
 
     ghost needs = { holds_needed };
 
-    ghost goes_on = { λ _. holds_go_on };
+    ghost goes_on = { λ _. holds_go_on mutex_model mutex_is_for_one };
 }

@@ -1,5 +1,9 @@
 use Rattle.running_model.proofs.Steps.{zero_or_not}
-use Rattle.running_mutex.proofs.MutexKeeps.{tries, tries_alone}
+use Rattle.running_tallies.specs.MutexTally.{mutex_is_for_one}
+use Rattle.running_tallies.proofs.OneHold.{tried_alone}
+use Rattle.running_passes.specs.Passes.{view}
+use Rattle.running_mutex.specs.Names.{mutex_model}
+use Rattle.running_mutex.proofs.MutexKeeps.{exchanges, tries}
 use Rattle.running_mutex.proofs.Mutex.exchange.Goals as goal
 
 pub exchange-found-requires-clause-may : goal.exchange-found-requires-clause-may
@@ -12,4 +16,4 @@ pub returns-clause-tried : goal.returns-clause-tried
 returns-clause-tried g c = (c.exchange-found.result.0, zero_or_not _, c.exchange-found.ensures.went)
 
 pub returns-clause-exact : goal.returns-clause-exact
-returns-clause-exact g c = λ alone. tries_alone _ _ _ c.args.turn.pass.now (c.requires.may _ c.locked.ensures) (c.exchange-found.ensures.alone alone.0) alone.1
+returns-clause-exact g c = λ alone. tried_alone mutex_model mutex_is_for_one _ _ (exchanges _) _ _ (view c.args.turn.pass.now) (c.requires.may _ c.locked.ensures) (c.exchange-found.ensures.alone alone.0) alone.1

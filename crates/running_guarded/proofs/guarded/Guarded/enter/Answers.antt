@@ -1,7 +1,7 @@
 use Rattle.running_guarded.specs.Names.{Call, Answer, HoldKind, mutex_model, all_of, HasMutex}
-use Rattle.running_guarded.proofs.Names.{MatchBool, Some, None, refl, sym, subst, MatchBool-at_true, MatchBool-at_false, is_over, either_is_over}
+use Rattle.running_guarded.proofs.Names.{MatchBool, Some, None, refl, sym, subst, MatchBool-at_true, MatchBool-at_false, is_over, either_is_over, granted_has}
 use Rattle.running_guarded.specs.GuardedSteps.{Plays}
-use Rattle.running_guarded.proofs.GuardedSights.{may_begin, led_first, has_now}
+use Rattle.running_guarded.proofs.GuardedSights.{may_begin, led_first}
 use Rattle.running_guarded.proofs.guarded.Guarded.enter.Goals as goal
 
 pub first-free-requires-clause-may : goal.first-free-requires-clause-may
@@ -15,8 +15,7 @@ returns-then-free-clause-played g c = subst (λ s. Plays Call.Lock Answer.Succes
     (MatchBool-at_true _ _ c.if-free.true (led_first _ c.args.seat.me.0 c.first-free.result.1.seat.me.0 c.first-free.ensures.tried))
 
 pub returns-then-free-clause-has : goal.returns-then-free-clause-has
-returns-then-free-clause-has g c = λ _. subst (λ s. HasMutex s.me.0.tally.parties) (sym c.end.ensures.still)
-    (has_now (all_of c.args.seat.me.0.tally.parties) c.args.seat.me.0 c.first-free.result.1.seat.me.0 refl (MatchBool-at_true _ _ c.if-free.true (led_first _ c.args.seat.me.0 c.first-free.result.1.seat.me.0 c.first-free.ensures.tried)))
+returns-then-free-clause-has g c = λ _. granted_has Call.Lock c.args.seat.me.0.tally.parties _ (returns-then-free-clause-played g c)
 
 pub spin-soon-requires-clause-at : goal.spin-soon-requires-clause-at
 spin-soon-requires-clause-at g c = (all_of c.args.seat.me.0.tally.parties, MatchBool-at_false _ _ c.if-free.false (led_first _ c.args.seat.me.0 c.first-free.result.1.seat.me.0 c.first-free.ensures.tried))
@@ -31,9 +30,7 @@ returns-then-soon-clause-played g c = let refused = MatchBool-at_false _ _ c.if-
     (MatchBool-at_true _ _ c.if-soon.true (c.spin-soon.ensures.over (all_of c.args.seat.me.0.tally.parties) refused))
 
 pub returns-then-soon-clause-has : goal.returns-then-soon-clause-has
-returns-then-soon-clause-has g c = λ _. let refused = MatchBool-at_false _ _ c.if-free.false (led_first _ c.args.seat.me.0 c.first-free.result.1.seat.me.0 c.first-free.ensures.tried) in
-    subst (λ s. HasMutex s.me.0.tally.parties) (sym c.end-then-soon.ensures.still)
-    (has_now (all_of c.args.seat.me.0.tally.parties) c.args.seat.me.0 c.spin-soon.result.1.seat.me.0 refl (MatchBool-at_true _ _ c.if-soon.true (c.spin-soon.ensures.over (all_of c.args.seat.me.0.tally.parties) refused)))
+returns-then-soon-clause-has g c = λ _. granted_has Call.Lock c.args.seat.me.0.tally.parties _ (returns-then-soon-clause-played g c)
 
 pub ask_and_try-granted-requires-clause-at : goal.ask_and_try-granted-requires-clause-at
 ask_and_try-granted-requires-clause-at g c = let refused = MatchBool-at_false _ _ c.if-free.false (led_first _ c.args.seat.me.0 c.first-free.result.1.seat.me.0 c.first-free.ensures.tried) in
@@ -51,7 +48,4 @@ returns-clause-played g c = let refused = MatchBool-at_false _ _ c.if-free.false
     (c.ask_and_try-granted.ensures.over (all_of c.args.seat.me.0.tally.parties) stood)
 
 pub returns-clause-has : goal.returns-clause-has
-returns-clause-has g c = λ granted. let refused = MatchBool-at_false _ _ c.if-free.false (led_first _ c.args.seat.me.0 c.first-free.result.1.seat.me.0 c.first-free.ensures.tried) in
-    let stood = MatchBool-at_false _ _ c.if-soon.false (c.spin-soon.ensures.over (all_of c.args.seat.me.0.tally.parties) refused) in
-    subst (λ s. HasMutex s.me.0.tally.parties) (sym c.end-2.ensures.still)
-    (has_now (all_of c.args.seat.me.0.tally.parties) c.args.seat.me.0 c.ask_and_try-granted.result.1.seat.me.0 refl (MatchBool-at_true _ _ granted (c.ask_and_try-granted.ensures.over (all_of c.args.seat.me.0.tally.parties) stood)))
+returns-clause-has g c = λ granted. granted_has Call.Lock c.args.seat.me.0.tally.parties _ (MatchBool-at_true _ _ granted (returns-clause-played g c))

@@ -1,14 +1,22 @@
-use Rattle.running_guarded.specs.Names.{mutex_model, mutex_lawful}
-use Rattle.running_guarded.proofs.Names.{refl, ◌≡◌, ◌==◌, tries, zero_or_not}
-use Rattle.atomic_table.proofs.Lists.{exchanged}
-use Rattle.running_model.proofs.Updates.{either_is}
-use Rattle.running_mutex.proofs.MutexKeeps.{exchange_grants}
+use Rattle.running_guarded.specs.Names.{mutex_model, seen_instead}
+use Rattle.running_guarded.proofs.Names.{zero_or_not, tried, tried_alone, exchanges, mutex_is_for_one, carries_none, value_tried}
 use Rattle.running_guarded.proofs.guarded.Guarded.exchange.Goals as goal
 
-pub exchange-found-requires-clause-update : goal.exchange-found-requires-clause-update
-exchange-found-requires-clause-update g c =
-    tries mutex_model mutex_lawful _ _ _ _ _ _ _ (λ w n. either_is (n == 0) 1 n) refl (λ n some one. exchanged n 0 1 (λ m. m ≡ n) (λ hit. absurd (some hit)) (λ _. refl)) c.requires.no_slot c.requires.alive
-    c.requires.may (λ call place hold past e name found. exchange_grants call place hold past e name 1 found)
+pub exchange-found-requires-clause-needs : goal.exchange-found-requires-clause-needs
+exchange-found-requires-clause-needs g c = λ name found named. tt
+
+pub exchange-found-requires-clause-carries : goal.exchange-found-requires-clause-carries
+exchange-found-requires-clause-carries g c = carries_none _ _ c.requires.off c.requires.no_slot
+
+pub returns-clause-locked : goal.returns-clause-locked
+returns-clause-locked g c = let step = c.exchange-found.ensures.stepped in tried mutex_model mutex_is_for_one _ _ (exchanges 1) _ _ c.args.turn.seat.me.0 c.requires.may c.exchange-found.result.1.seat.me.0 step.beside step.told
+
+pub returns-clause-slot : goal.returns-clause-slot
+returns-clause-slot g c = let step = c.exchange-found.ensures.stepped in
+    value_tried _ (λ s. seen_instead s 0 1) c.args.turn.seat.me.0 c.exchange-found.result.1.seat.me.0 _ c.requires.off (tried mutex_model mutex_is_for_one _ _ (exchanges 1) _ _ c.args.turn.seat.me.0 c.requires.may c.exchange-found.result.1.seat.me.0 step.beside step.told) c.exchange-found.ensures.carries
 
 pub returns-clause-tried : goal.returns-clause-tried
-returns-clause-tried g c = (c.exchange-found.result.0, zero_or_not _, c.exchange-found.ensures.went)
+returns-clause-tried g c = (c.exchange-found.result.0, zero_or_not _, c.exchange-found.ensures.stepped.went)
+
+pub returns-clause-exact : goal.returns-clause-exact
+returns-clause-exact g c = λ whole. tried_alone mutex_model mutex_is_for_one _ _ (exchanges 1) _ _ c.args.turn.seat.me.0 c.requires.may (c.exchange-found.ensures.stepped.alone whole) c.requires.off

@@ -15,5 +15,4 @@ returns-clause-played g c = let t = c.first-free.ensures.tried in
     (try_ends _ t.0 _ _ t.1 t.2)
 
 pub returns-clause-has : goal.returns-clause-has
-returns-clause-has g c = λ done. let t = c.first-free.ensures.tried in
-    subst (λ s. HasMutex s.me.0.tally.parties) (sym c.end.ensures.still) (granted_has Call.TryLock c.args.seat.me.0.tally.parties _ (MatchBool-at_true _ _ done (try_ends _ t.0 _ _ t.1 t.2)))
+returns-clause-has g c = λ done. granted_has Call.TryLock c.args.seat.me.0.tally.parties _ (MatchBool-at_true _ _ done (returns-clause-played g c))

@@ -1,7 +1,6 @@
 use Rattle.running_spin_lock.specs.Names.{Answer, HoldKind, all_of}
 use Rattle.running_spin_lock.proofs.Names.{Some, sym, subst, MatchBool-at_true, MatchBool-at_false, is_over}
 use Rattle.running_spin_lock.specs.SpinLawful.{spin_model}
-use Rattle.running_spin_lock.specs.SpinParties.{HasLock}
 use Rattle.running_spin_lock.specs.SpinSteps.{HasPlayed}
 use Rattle.running_spin_lock.proofs.SpinPlays.{may_begin, first_goes, granted_has}
 use Rattle.running_spin_lock.proofs.spin_lock.SpinLock.enter.Goals as goal
@@ -17,8 +16,7 @@ returns-then-free-clause-played g c = subst (λ q. HasPlayed g.C.Called.call Ans
     (MatchBool-at_true _ _ c.if-free.true (first_goes _ g.C.Called.call _ _ g.met.C.Waiting.waits c.first-free.ensures.tried))
 
 pub returns-then-free-clause-has : goal.returns-then-free-clause-has
-returns-then-free-clause-has g c = subst (λ q. HasLock q.me.0.tally.parties) (sym c.end.ensures.still)
-    (granted_has g.C.Called.call (all_of c.args.seat.me.0.tally.parties) _ (MatchBool-at_true _ _ c.if-free.true (first_goes _ g.C.Called.call _ _ g.met.C.Waiting.waits c.first-free.ensures.tried)))
+returns-then-free-clause-has g c = granted_has g.C.Called.call (all_of c.args.seat.me.0.tally.parties) _ (returns-then-free-clause-played g c)
 
 pub spin-granted-requires-clause-at : goal.spin-granted-requires-clause-at
 spin-granted-requires-clause-at g c = (all_of c.args.seat.me.0.tally.parties, MatchBool-at_false _ _ c.if-free.false (first_goes _ g.C.Called.call _ _ g.met.C.Waiting.waits c.first-free.ensures.tried))
@@ -31,6 +29,4 @@ returns-clause-played g c = subst (λ q. HasPlayed g.C.Called.call Answer.Succes
     (c.spin-granted.ensures.over (all_of c.args.seat.me.0.tally.parties) (MatchBool-at_false _ _ c.if-free.false (first_goes _ g.C.Called.call _ _ g.met.C.Waiting.waits c.first-free.ensures.tried)))
 
 pub returns-clause-has : goal.returns-clause-has
-returns-clause-has g c = subst (λ q. HasLock q.me.0.tally.parties) (sym c.end-2.ensures.still)
-    (granted_has g.C.Called.call (all_of c.args.seat.me.0.tally.parties) _
-    (c.spin-granted.ensures.over (all_of c.args.seat.me.0.tally.parties) (MatchBool-at_false _ _ c.if-free.false (first_goes _ g.C.Called.call _ _ g.met.C.Waiting.waits c.first-free.ensures.tried))))
+returns-clause-has g c = granted_has g.C.Called.call (all_of c.args.seat.me.0.tally.parties) _ (returns-clause-played g c)

@@ -1,7 +1,6 @@
 use Rattle.running_spin_lock.specs.Names.{Call, Answer, HoldKind, all_of}
 use Rattle.running_spin_lock.proofs.Names.{MatchBool, Some, None, sym, subst, MatchBool-at_true, either_is_over}
 use Rattle.running_spin_lock.specs.SpinLawful.{spin_model}
-use Rattle.running_spin_lock.specs.SpinParties.{HasLock}
 use Rattle.running_spin_lock.specs.SpinSteps.{HasPlayed}
 use Rattle.running_spin_lock.proofs.SpinPlays.{may_try_lock, try_ends, granted_has}
 use Rattle.running_spin_lock.proofs.spin_lock.SpinLock.try_enter.Goals as goal
@@ -16,4 +15,4 @@ pub returns-clause-played : goal.returns-clause-played
 returns-clause-played g c = let t = c.first-free.ensures.tried in subst (λ q. MatchBool c.first-free.result.0 (HasPlayed Call.TryLock Answer.Success (Some HoldKind.Write) c.args.seat.me.0 q.me.0) (HasPlayed Call.TryLock Answer.Interrupted None c.args.seat.me.0 q.me.0)) (sym c.end.ensures.still) (try_ends _ t.0 _ _ t.1 t.2)
 
 pub returns-clause-has : goal.returns-clause-has
-returns-clause-has g c = λ done. let t = c.first-free.ensures.tried in subst (λ q. HasLock q.me.0.tally.parties) (sym c.end.ensures.still) (granted_has Call.TryLock (all_of c.args.seat.me.0.tally.parties) _ (MatchBool-at_true _ _ done (try_ends _ t.0 _ _ t.1 t.2)))
+returns-clause-has g c = λ done. granted_has Call.TryLock (all_of c.args.seat.me.0.tally.parties) _ (MatchBool-at_true _ _ done (returns-clause-played g c))

@@ -1,6 +1,6 @@
-use Rattle.running_guarded.proofs.Names.{◌∷◌, Some, sym, ap, ◌∙◌}
-use Rattle.atomic_table.specs.Table.{rest}
-use Rattle.running_guarded.proofs.guarded.Guarded.take.Goals as goal
+use Rattle.running_spin_lock.specs.Names.{rest}
+use Rattle.running_spin_lock.proofs.Names.{◌∷◌, Some, sym, ap, ◌∙◌}
+use Rattle.running_spin_lock.proofs.slot.take.Goals as goal
 
 pub exchange-requires : goal.exchange-requires
 exchange-requires g c = let there = c.requires.there in (c.requires.own, (Some there.0, there.1 ∙ ap (λ slots. (0, Some there.0) ∷ rest slots) (sym there.1)))

@@ -1,0 +1,7 @@
+use Rattle.running_model.proofs.Names.{refl, ◌==◌}
+use Rattle.running_model.proofs.Updates.{either_is}
+use Rattle.running_model.proofs.Carrying.{steps_carrying}
+use Rattle.running_model.proofs.seat.SeatTurn+S+Played+M+P+V+C+W.exchange.Goals as goal
+
+pub compare_exchange-found-requires : goal.compare_exchange-found-requires
+compare_exchange-found-requires g c = (c.requires.own, c.requires.inside, steps_carrying _ _ _ _ _ g.C.Tally.adds_up _ _ _ (g.M.Script.lawful _) g.M.Script.apart g.G.Carries.stays _ _ _ g.met.G.Carries.goes_on g.met.G.Carries.moves _ _ _ _ _ _ _ (λ n. n) c.requires.may c.requires.needs c.requires.alive c.requires.carries (λ w n. either_is (n == c.args.from) c.args.to n) (λ w n. refl))
