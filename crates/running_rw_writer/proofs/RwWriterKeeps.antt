@@ -1,6 +1,6 @@
 -- What a step makes of what a pass saw and counts, and what the run says of it.
-use Rattle.running_rw_writer.specs.Names.{dite, ℕ_discrete, Word, Call, Patience, Intent, RwWriterPlace, Slot, Coming, WentAlone, Sights, View, Pass, IsWhole, Each, IsSamePass, part_of, sights_of, parties_of, counts_of, counted, seen, seen_instead, view_of, looked, missed, wrote, sum_of, none_played, both_played, core_played, played_add_up, PlaysAndCounts, IsShare, Told, HasSeen, HasMissed, HasDone, MarkedHolds, read_holds, write_holds, Knows, same_nothing, tells_same_nothing, Holds, no_holds, both_holds, nothing_marked, both_marked, read, no_more_read, written, no_more_written, flagged, lowered, marked_sees, marked_after, AreMarkedIn, IsMarkedOrHeld, rw_writer_model}
-use Rattle.running_rw_writer.proofs.Names.{◌≡◌, ◌≢◌, ℕ, ◌+◌, ◌-◌, ◌*◌, ◌%◌, ◌^◌, ◌<◌, ◌≤◌, ◌==◌, Some, None, List, [], ◌∷◌, inl, inr, get_or, refl, sym, ap, ◌∙◌, subst, arith, eqb-true, eqb-false}
+use Rattle.running_rw_writer.specs.Names.{dite, ℕ_discrete, Word, Call, Intent, RwWriterPlace, Coming, WentAlone, View, Pass, IsWhole, Each, IsSamePass, part_of, sights_of, parties_of, counts_of, counted, view_of, looked, missed, wrote, sum_of, none_played, both_played, core_played, played_add_up, PlaysAndCounts, IsShare, Told, HasSeen, MarkedHolds, read_holds, write_holds, Knows, same_nothing, tells_same_nothing, Holds, no_holds, both_holds, nothing_marked, both_marked, read, no_more_read, written, no_more_written, flagged, marked_sees, marked_after, AreMarkedIn, IsMarkedOrHeld, rw_writer_model}
+use Rattle.running_rw_writer.proofs.Names.{◌≡◌, ◌≢◌, ℕ, ◌+◌, ◌-◌, ◌^◌, ◌<◌, ◌==◌, Some, None, List, [], ◌∷◌, inl, inr, get_or, refl, sym, ap, ◌∙◌, subst, arith, eqb-true, eqb-false}
 use Rattle.std.proofs.lemmas.Bool.Decides.{nat_tests}
 use mathlib.Core.Option as maybe
 use Rattle.model_events.specs.declared.event.Act.{Act}
@@ -12,12 +12,12 @@ use Rattle.running_model.proofs.OfARun.{of_a_run}
 use Rattle.running_model.proofs.Steps.{told_so, found_there}
 use Rattle.running_model.proofs.Words.{hold_at}
 use Rattle.running_rw_hold.specs.RwReading.{MayLook}
-use Rattle.running_tallies.specs.HeldKeeps.{parts, only_writes}
+use Rattle.running_tallies.specs.HeldKeeps.{parts}
 use Rattle.running_tallies.specs.RwWriterTally.{marked_add_up, held_in}
 use Rattle.model_rw_writer.specs.Table.{rw_writer_table}
-use Rattle.running_rw_writer.specs.RwWriterParties.{TableHas, ComesToWrite}
+use Rattle.running_rw_writer.specs.RwWriterParties.{TableHas}
 use Rattle.running_rw_writer.specs.RwWriterShown.{IsOpen, EntersToRead, HasLeftReading, HasLeftWriting, reads_of, writes_of}
-use Rattle.running_rw_writer.specs.RwWriterSteps.{PlayedRwWriter, all_in, IsRuled, GrantsAreOfARun, NoHoldBesideTheWriter, NoMarkWithoutAFlag, IsMarked, word_of, SaysAlone, Missed, WriterIn}
+use Rattle.running_rw_writer.specs.RwWriterSteps.{PlayedRwWriter, all_in, GrantsAreOfARun, NoHoldBesideTheWriter, NoMarkWithoutAFlag, IsMarked, word_of, SaysAlone, Missed, WriterIn}
 
 -- with what the others count
 abbrev pub Share : Coming ℕ → ℕ → Pass PlayedRwWriter → Type 0

@@ -1,9 +1,8 @@
 -- The steps of a writer-preferring lock are those of its table.
-use Rattle.running_rw_writer.specs.Names.{nat_lt, MatchBool, WaitAction, Word, Call, Answer, HoldKind, Patience, Intent, After, Leaver, RwWriterPlace, rw_writer_intent, rw_writer_grant, is_marked, is_blocked, try_read_look, read_look, spins, marks_or_spins, unmarks_or_leaves, write_look, write_refused, last_look, released, woken_all, rw_writer_model, Slot, Parties, all_of, IsNamed, IsStepOn, Coming, Going, Beginning, Continuing, Answered, ComesBy, IsHolding, Led, HasCalled, HasEnded, spun, IsGranted, StandsToWait, rw_writer_handed}
-use Rattle.running_rw_writer.proofs.Names.{eqb-false, eqb-true, ◌≡◌, ◌≢◌, ℕ, ◌+◌, ◌-◌, ◌%◌, ◌^◌, ◌<◌, ◌≤◌, ◌==◌, Bool, true, false, cond, refl, sym, subst, ◌∙◌, List, [], ◌∷◌, Option, Some, None, arith, ne_eqb, eqb_same, is_marking, is_over, inl, inr}
+use Rattle.running_rw_writer.specs.Names.{MatchBool, WaitAction, Word, Call, Answer, HoldKind, Patience, Intent, After, Leaver, RwWriterPlace, rw_writer_intent, rw_writer_grant, is_marked, is_blocked, try_read_look, read_look, spins, marks_or_spins, unmarks_or_leaves, write_look, write_refused, last_look, released, woken_all, rw_writer_model, Slot, Parties, all_of, IsNamed, IsStepOn, Coming, Going, Beginning, Continuing, Answered, ComesBy, IsHolding, Led, HasCalled, HasEnded, spun, IsGranted, StandsToWait, rw_writer_handed}
+use Rattle.running_rw_writer.proofs.Names.{eqb-false, eqb-true, ◌≡◌, ◌≢◌, ℕ, ◌+◌, ◌-◌, ◌%◌, ◌^◌, ◌<◌, ◌≤◌, ◌==◌, Bool, true, false, refl, sym, subst, ◌∙◌, List, [], ◌∷◌, Option, Some, None, arith, ne_eqb, eqb_same, is_over, inl, inr}
 use Rattle.std.proofs.lemmas.Bool.Decides.{nat_tests}
-use Rattle.model_events.specs.declared.event.Wake.{Wake}
-use Rattle.running_model.specs.Turns.{IsToWakeAgain, IsOver, IsOverAside, IsOverAfterTwo}
+use Rattle.running_model.specs.Turns.{IsOver, IsOverAside, IsOverAfterTwo}
 use Rattle.running_model.proofs.Holding.{holding_told, holding_is}
 use Rattle.running_rw_hold.specs.RwReading.{MayLook, MayEnter}
 use Rattle.running_rw_writer.specs.RwWriterSteps.{IsMarked}
@@ -17,9 +16,6 @@ abbrev Ended : Call ℕ → Answer ℕ → Option HoldKind → List (Slot ℕ) �
 Ended call answer hold done p = HasEnded rw_writer_model call answer hold done p
 
 -- what the tests of the table say
-
-hit : (m n : ℕ) → m ≡ n → (m == n) ≡ true
-hit m n is = subst (λ k. (k == n) ≡ true) (sym is) (eqb_same n)
 
 pub unmarked_word : (w : ℕ) → ¬ IsMarked w → is_marked w ≡ false
 unmarked_word w h1 = grind (arith, nat_tests, eqb-true, eqb-false)
@@ -117,7 +113,7 @@ enter_so : (patience : Patience) (seen found : ℕ) (done : List (Slot ℕ)) (q 
 enter_so patience seen found done q test grants led = rw (test, grants) at led
 
 pub entered : (patience : Patience) (seen found : ℕ) (done : List (Slot ℕ)) (p q : Parties ℕ) → seen < 2 → found ≡ seen → WriteGoes (After.At (RwWriterPlace.Enter seen patience)) done p → TableLed Going p found q → WriteIsGranted done q
-entered patience seen found done p q free is at went = enter_so patience seen found done q (hit found seen is) (enters seen free) (went Call.WriteLock (RwWriterPlace.Enter seen patience) None done at)
+entered patience seen found done p q free is at went = enter_so patience seen found done q (subst (λ k. (k == seen) ≡ true) (sym is) (eqb_same seen)) (enters seen free) (went Call.WriteLock (RwWriterPlace.Enter seen patience) None done at)
 
 enter_missed_so : (patience : Patience) (seen found : ℕ) (done : List (Slot ℕ)) (q : Parties ℕ) → (found == seen) ≡ false →
     Led rw_writer_model Call.WriteLock (RwWriterPlace.Enter seen patience) None found done q → WriteGoes (write_refused patience found) done q
@@ -254,12 +250,9 @@ unlocking kind after p q has goes = record { call = Call.Unlock; done = p.restin
 pub last_reader : (found : ℕ) (p q : Parties ℕ) → found ≡ 3 → Unlocks HoldKind.Read (released (Some found)) p q → Unlocks HoldKind.Read (After.At (RwWriterPlace.Count Leaver.Reader)) p q
 last_reader found p q is goes = λ done holding. subst (λ n. CallGoes Call.Unlock (released (Some n)) done q) is (goes done holding)
 
-wakes_so : (found : ℕ) (done : List (Slot ℕ)) (q : Parties ℕ) → (found == 3) ≡ true → CallGoes Call.Unlock (After.At (RwWriterPlace.WakeOne Leaver.Reader)) done q → CallGoes Call.Unlock (unlocked HoldKind.Read found) done q
-wakes_so found done q test at = rw test at
-
 pub wakes_writer : (found last : ℕ) (p q r : Parties ℕ) → found ≡ 3 → last ≡ found → Unlocks HoldKind.Read (After.At (RwWriterPlace.Count Leaver.Reader)) p q → GoesFromTo Call.Unlock (After.At (RwWriterPlace.Count Leaver.Reader)) (After.At (RwWriterPlace.WakeOne Leaver.Reader)) q r →
     Unlocks HoldKind.Read (unlocked HoldKind.Read last) p r
-wakes_writer found last p q r is saw goes on = λ done holding. wakes_so last done r (hit last 3 (saw ∙ is)) (on done (goes done holding))
+wakes_writer found last p q r is saw goes on = λ done holding. subst (λ n. CallGoes Call.Unlock (unlocked HoldKind.Read n) done r) (sym (saw ∙ is)) (on done (goes done holding))
 
 -- another reader is answered
 

@@ -1,12 +1,10 @@
 -- What a writer's sights and tries come to, one after another.
-use Rattle.running_rw_writer.specs.Names.{is_some, MatchBool, Sights, View, Pass, IsSamePass, part_of, sights_of, seen, seen_instead, view_of, counts_of, counted, wrote, MarkedHolds, flagged, lowered, written, read_holds, write_holds, Holds}
-use Rattle.running_rw_writer.proofs.Names.{◌≡◌, ◌≢◌, ℕ, ◌+◌, ◌-◌, ◌%◌, ◌^◌, ◌<◌, ◌==◌, ◌&&◌, not, Bool, true, false, cond, Option, Some, None, refl, sym, ap, subst, ◌∙◌, ◌≤◌, ◌⊎◌, arith, eqb_same}
+use Rattle.running_rw_writer.specs.Names.{is_some, MatchBool, Sights, Pass, IsSamePass, sights_of, seen, counts_of, counted, wrote, flagged}
+use Rattle.running_rw_writer.proofs.Names.{◌≡◌, ◌≢◌, ℕ, ◌+◌, ◌-◌, ◌%◌, ◌^◌, ◌<◌, not, Bool, true, Option, Some, None, ◌≤◌, arith}
 use Rattle.std.proofs.lemmas.Bool.{eqb-true, eqb-false}
 use Rattle.std.proofs.lemmas.Bool.Decides.{nat_tests}
-use Rattle.model_rw_writer.specs.Law.{has_mark}
 use Rattle.running_rw_writer.specs.RwWriterShown.{IsAloneWithin, HasTried, HasJustSeen, HasMissedIt, MayGiveUp, HasGivenUpWriting, HasEnteredSeenFree}
 use Rattle.running_rw_writer.specs.RwWriterSteps.{PlayedRwWriter, IsMarked, IsSeenByWriter, Missed, WriterIn}
-use Rattle.running_rw_writer.proofs.RwWriterPlays.{unmarked_word}
 
 -- what a function of the lock's model says of a word, by whether it answers another word
 

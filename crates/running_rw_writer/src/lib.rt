@@ -206,7 +206,6 @@ impl<A: Allocator> RwLockWriterPreference<A> {
     }
 
     /// Ends the lock, and answers its word. With the whole pass that is what its holds come to, so no mark stands: 0 where it has none.
-    #[tactic(auto, using(crate::proofs::RwWriterKeeps::closes))]
     pub fn close(self, pass: RwWriterPass) -> u64
         requires own { IsRwWriterPass self pass }
         ensures exact { IsWhole (part_in pass) → result ≡ word_of (tally_of (pass_in pass)) }

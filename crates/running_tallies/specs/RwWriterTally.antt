@@ -1,5 +1,5 @@
 -- What the passes of a writer-preferring lock count adds up, and follows the run.
-use Rattle.std.proofs.Common.{ℕ, ◌+◌, ◌*◌, ◌-◌, ◌%◌, ◌^◌, ◌<◌, ◌≤◌, ◌≡◌, ◌≢◌, ◌==◌, Bool, true, false, is_some, refl, sym, ap, subst, ◌∙◌, List, [], ◌∷◌, Option, Some, inl, inr, arith}
+use Rattle.std.proofs.Common.{ℕ, ◌+◌, ◌-◌, ◌%◌, ◌^◌, ◌<◌, ◌≡◌, ◌≢◌, ◌==◌, Bool, true, is_some, refl, sym, subst, ◌∙◌, List, [], ◌∷◌, Option, Some, arith}
 use Rattle.std.proofs.lemmas.Bool.{eqb-true, eqb-false}
 use Rattle.std.proofs.lemmas.Bool.Decides.{nat_tests}
 use Rattle.model_events.specs.Past.{word_in, word_after, hold_of}
@@ -11,11 +11,10 @@ use Rattle.model_rw_writer.specs.Table.{rw_writer_table}
 use Rattle.model_rw_writer.proofs.WordLaws.{IsExchange, IsWriterIntent}
 use Rattle.model_rw_writer.proofs.PlaceLaws.{writer_intent, here}
 use Rattle.running_tallies.specs.Names.{Word, Call, Act, Event, HoldKind, Hold, PendingCall, call_of, holds_of, reads_in, writes_in, u64_arithmetic, IsTally, StaysOnNoWord, GoesOnByActs, IsOnNoWord, on_no_word, grants_by, same_grants, next_grants}
-use Rattle.running_tallies.specs.Held.{read_holds, write_holds, Knows, Locks}
+use Rattle.running_tallies.specs.Held.{read_holds, write_holds}
 use Rattle.running_tallies.specs.HeldTally.{same_nothing, tells_same_nothing, held_adds_up}
-use Rattle.running_tallies.specs.HeldKeeps.{comes_in, goes_out, takes_over, steps_down}
-use Rattle.running_tallies.specs.RwReaderRule.{Holds, no_holds, both_holds}
-use Rattle.running_tallies.specs.RwReaderTally.{holds_stay, knows_nothing}
+use Rattle.running_tallies.specs.RwReaderRule.{Holds}
+use Rattle.running_tallies.specs.RwReaderTally.{holds_stay}
 use Rattle.running_tallies.specs.RwWriterScript.{rw_writer_model, rw_writer_lawful}
 use Rattle.running_tallies.specs.declared.rw_writer.MarkedHolds.{MarkedHolds}
 use Rattle.running_tallies.specs.RwWriterRule.{marked, nothing_marked, both_marked, read, no_more_read, written, no_more_written, flagged, lowered, marked_after, marked_needed, AreMarkedIn, IsMarkedOrHeld}
