@@ -23,8 +23,8 @@ def variables_of(question):
 def call_in(item):
     """The call of an item, behind its tests and parentheses; None where it changes a variable."""
     words = [word for word in item.split() if word not in ("(", ")")]
-    while words and words[0] in ("if", "while"):
-        words = words[4:]
+    while words and words[0] in ("if", "while", "last"):
+        words = words[words.index("then") + 1 if words[0] == "last" else 4 :]
     return None if not words or words[0] in ("set", "add", "sub") else " ".join(words)
 
 
