@@ -115,7 +115,8 @@ class Shelf:
 
     def has(self, lane, crate):
         """Whether it keeps what the lane has of a crate."""
-        return stamp_of(lane.made_of(crate.name)) == stamp_of(f"{self.folder}/{crate.name}")
+        stamp = stamp_of(lane.made_of(crate.name))
+        return stamp is not None and stamp == stamp_of(f"{self.folder}/{crate.name}")
 
     def give(self, lane, crate):
         """Gives a lane what it lacks of a crate, and of the libraries that this stands on."""
@@ -147,8 +148,16 @@ def link(folder, to):
     for it in (to, f"{to}.new"):
         shutil.rmtree(it, ignore_errors=True)
     if os.path.isdir(folder):
-        shutil.copytree(folder, f"{to}.new", copy_function=os.link)
+        shutil.copytree(folder, f"{to}.new", copy_function=link_file)
         os.replace(f"{to}.new", to)
+
+
+def link_file(path, to):
+    try:
+        os.link(path, to)
+    except OSError:
+        # no links there
+        shutil.copy2(path, to)
 
 
 class Lane:
