@@ -36,11 +36,12 @@ TESTED = {
     # What the running types are made of: each `new` above is one of these.
     "running_passes Words::new": "an_atomic_that_finds_no_memory",
     "running_model Stage::new": "a_mutex_that_finds_no_memory",
+    "running_spin_lock new": "a_spin_lock_that_finds_no_memory_hands_its_value_back",
 }
 
 # The libraries of the programs, whose calls take memory of the system alone. `./test streams` sweeps the limit of each program.
 SWEPT = {
-    *("text_lines", "text_advice", "text_trace", "explore_search", "explore_text", "explore_client"),
+    *("text_lines", "text_advice", "text_trace", "explore_search", "explore_client_complete", "explore_text", "explore_client"),
     *("draw_markup", "draw_story", "draw_layout", "draw_parts", "draw_text"),
 }
 
