@@ -57,8 +57,7 @@ class Crate:
     def __init__(self, top, name, libraries):
         self.name, self.libraries, self.folder = name, [it.name for it in libraries], f"{top}/crates/{name}"
         self.below = {below for it in libraries for below in (it.name, *it.below)}
-        sources = [it for it in glob.glob(f"{self.folder}/**/*.*t", recursive=True) if "/out/" not in it]
-        texts = [edits.text_of(it) for it in sources]
+        texts = [edits.text_of(it) for it in glob.glob(f"{self.folder}/src/**/*.rt", recursive=True)]
         self.lines = sum(it.count("\n") for it in texts)
         self.is_program = os.path.isfile(f"{self.folder}/src/main.rt")
         self.has_tests = any("#[test]" in it for it in texts)
@@ -87,7 +86,7 @@ def crates_of(top):
 
 
 class Task:
-    """One command's work on one crate: what it waits for, how much it is, in lines, and what does it, given a lane."""
+    """One command's work on one crate: what it waits for, how long it takes, in lines of code proved, and what does it, given a lane."""
 
     def __init__(self, kind, crate, after, weight, call):
         self.kind, self.crate, self.after, self.weight, self.call = kind, crate, after, weight, call
@@ -364,11 +363,12 @@ def tasks_of(wanted, crates, until):
     def add_proofs(names):
         for name in closed(names, crates):
             if ("proofs", name) not in tasks:
-                add("proofs", name, [("proofs", it) for it in crates[name].libraries], crates[name].lines * (not crates[name].is_program), prove)
+                add("proofs", name, [("proofs", it) for it in crates[name].libraries], (120 + crates[name].lines) * (not crates[name].is_program), prove)
 
     for kind, names in wanted.items():
         chosen = [crates[it] for it in names or crates]
         below = lambda it: [("proofs", name) for name in [it.name, *it.libraries]]
+        unproved = lambda it: 150 + sum(crates[name].lines for name in it.below) // 20
         if kind == "proofs":
             add_proofs(names)
         for it in chosen:
@@ -382,9 +382,9 @@ def tasks_of(wanted, crates, until):
                 add_proofs([it.name])
                 add(kind, it.name, below(it), 150 * len(it.edits), Tries(until))
             elif kind == "tries" and it.has_tests:
-                add(kind, it.name, [], 600, attempt)
+                add(kind, it.name, [], unproved(it), attempt)
             elif kind == "cases" and it.name in EXAMPLES:
-                add(kind, it.name, [], 900, play)
+                add(kind, it.name, [], unproved(it), play)
     for task in tasks.values():
         task.after = [it for it in task.after if it in tasks and it != task.key]
     return tasks
