@@ -1,4 +1,4 @@
-//! The tests of what plays, shows and explores schedule texts, apart from it, so that it is proved once. What programs print of texts is
+//! The tests of what plays, shows and explores schedule texts, and of covering charts, apart from it, so that it is proved once. What programs print is
 //! tested by the tables of `texts`.
 #![tactic(auto)]
 

@@ -1,5 +1,6 @@
 mod draw;
 mod every_byte;
+mod explore;
 mod play;
 mod programs;
 mod streams;
