@@ -70,6 +70,7 @@ impl Counts<(), u64> for Waits {
 }
 
 impl CountsByActs<(), WaitersScript, WaitersPlace, u64> for Waits {
+    ghost use Rattle.std.proofs.Common.{refl};
     ghost use Rattle.running_model.specs.Sees.{sights_after};
     ghost use Rattle.running_mutex.specs.CondRule.{waits_after};
     ghost use Rattle.running_mutex.specs.CondTally.{waits_go_on};
@@ -78,7 +79,9 @@ impl CountsByActs<(), WaitersScript, WaitersPlace, u64> for Waits {
 
     ghost sees = { sights_after };
 
-    ghost after = { waits_after };
+    ghost after = { λ _ _. waits_after };
+
+    ghost same = { λ _ _ _ _ _ _ _. refl };
 
     ghost needs = { λ _ _. Unit {0} };
 

@@ -87,6 +87,7 @@ impl Counts<(), u64> for Runs {
 }
 
 impl CountsByActs<(), OnceScript, OncePlace, u64> for Runs {
+    ghost use Rattle.std.proofs.Common.{refl};
     ghost use Rattle.running_model.specs.Sees.{sights_after};
     ghost use Rattle.running_once.specs.OnceRule.{runs_after, runs_needed};
     ghost use Rattle.running_once.specs.OnceTally.{runs_go_on};
@@ -95,7 +96,9 @@ impl CountsByActs<(), OnceScript, OncePlace, u64> for Runs {
 
     ghost sees = { sights_after };
 
-    ghost after = { runs_after };
+    ghost after = { λ _ _. runs_after };
+
+    ghost same = { λ _ _ _ _ _ _ _. refl };
 
     ghost needs = { runs_needed };
 

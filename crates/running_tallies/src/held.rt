@@ -76,6 +76,7 @@ impl Counts<(), u64> for Held<()> {
 }
 
 impl CountsByActs<(), RwReaderScript, RwReaderPlace, u64> for Held<()> {
+    ghost use Rattle.std.proofs.Common.{refl};
     ghost use Rattle.running_model.specs.Sees.{sights_after};
     ghost use Rattle.running_tallies.specs.RwReaderRule.{held_after, held_needed};
     ghost use Rattle.running_tallies.specs.RwReaderTally.{holds_go_on};
@@ -84,7 +85,9 @@ impl CountsByActs<(), RwReaderScript, RwReaderPlace, u64> for Held<()> {
 
     ghost sees = { sights_after };
 
-    ghost after = { held_after };
+    ghost after = { λ _ _. held_after };
+
+    ghost same = { λ _ _ _ _ _ _ _. refl };
 
     ghost needs = { held_needed };
 

@@ -90,6 +90,7 @@ impl Counts<(), u64> for Holds {
 }
 
 impl CountsByActs<(), MutexScript, MutexPlace, u64> for Holds {
+    ghost use Rattle.std.proofs.Common.{refl};
     ghost use Rattle.running_model.specs.Sees.{sights_after};
     ghost use Rattle.running_tallies.specs.MutexRule.{holds_after, holds_needed};
     ghost use Rattle.running_tallies.specs.MutexScript.{mutex_model};
@@ -99,7 +100,9 @@ impl CountsByActs<(), MutexScript, MutexPlace, u64> for Holds {
 
     ghost sees = { sights_after };
 
-    ghost after = { holds_after };
+    ghost after = { λ _ _. holds_after };
+
+    ghost same = { λ _ _ _ _ _ _ _. refl };
 
     ghost needs = { holds_needed };
 

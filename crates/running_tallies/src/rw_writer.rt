@@ -76,6 +76,7 @@ impl Counts<(), u64> for MarkedHolds {
 }
 
 impl CountsByActs<(), RwWriterScript, RwWriterPlace, u64> for MarkedHolds {
+    ghost use Rattle.std.proofs.Common.{refl};
     ghost use Rattle.running_tallies.specs.RwWriterRule.{marked_sees, marked_after, marked_needed};
     ghost use Rattle.running_tallies.specs.RwWriterTally.{marks_go_on};
 
@@ -83,7 +84,9 @@ impl CountsByActs<(), RwWriterScript, RwWriterPlace, u64> for MarkedHolds {
 
     ghost sees = { marked_sees };
 
-    ghost after = { marked_after };
+    ghost after = { λ _ _. marked_after };
+
+    ghost same = { λ _ _ _ _ _ _ _. refl };
 
     ghost needs = { marked_needed };
 

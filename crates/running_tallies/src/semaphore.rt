@@ -71,6 +71,7 @@ impl Counts<u64, u64> for Permits {
 }
 
 impl CountsByActs<u64, SemaphoreScript, SemaphorePlace, u64> for Permits {
+    ghost use Rattle.std.proofs.Common.{refl};
     ghost use Rattle.std.specs.Prelude.{◌%◌, ◌^◌};
     ghost use Rattle.running_model.specs.Sees.{sights_after};
     ghost use Rattle.running_tallies.specs.SemaphoreRule.{permits_after};
@@ -80,7 +81,9 @@ impl CountsByActs<u64, SemaphoreScript, SemaphorePlace, u64> for Permits {
 
     ghost sees = { sights_after };
 
-    ghost after = { permits_after };
+    ghost after = { λ _ _. permits_after };
+
+    ghost same = { λ _ _ _ _ _ _ _. refl };
 
     ghost needs = { λ _ _. Unit {0} };
 
