@@ -60,7 +60,7 @@ module _ (n : ℕ) (fits : n < 2 ^ 32) (way : Coming ℕ) (intent : Word → Int
   count_there = (word_says n (arrivals_in s.past) found fits counts_there (λ nil. (s.law.law.nobody nil).0)).0
 
 pub loads : (n : ℕ) → n < 2 ^ 32 → (way : Coming ℕ) (found : ℕ) (p q : BarrierPass) → MayStep (barrier_model n) (Word.State ∷ []) way 0 (λ k. Intent.Load k) (parties_of p) →
-    Acted (barrier_model n) both_rounds (AreRoundsIn n) sights_after (rounds_after n) way (view p) found (view q) → Loaded n (counted p) found (counted q)
+    Acted (barrier_model n) both_rounds (AreRoundsIn n) sights_after (λ past _. rounds_after n past) way (view p) found (view q) → Loaded n (counted p) found (counted q)
 loads n fits way found p q may acted =
     let s = acted.share in
     let saw = told_so _ _ _ _ (λ k. Intent.Load k) (parties_of p) may Word.State may.named found sights_after (rounds_after n s.past) (counted p) (counted q) acted.told in record {
@@ -71,7 +71,7 @@ loads n fits way found p q may acted =
     }
 
 pub exchanges : (n : ℕ) → n < 2 ^ 32 → (way : Coming ℕ) (from to found : ℕ) (p q : BarrierPass) → MayStep (barrier_model n) (Word.State ∷ []) way 0 (λ k. Intent.Exchange k from to) (parties_of p) → count_of from < n →
-    Acted (barrier_model n) both_rounds (AreRoundsIn n) sights_after (rounds_after n) way (view p) found (view q) → Exchanged n from (counted p) found (counted q)
+    Acted (barrier_model n) both_rounds (AreRoundsIn n) sights_after (λ past _. rounds_after n past) way (view p) found (view q) → Exchanged n from (counted p) found (counted q)
 exchanges n fits way from to found p q may room acted = record {
   round = full_rounds n s.past;
   says = says n fits way (λ k. Intent.Exchange k from to) found p may (λ w memory. refl) s;

@@ -8,8 +8,8 @@ use Rattle.running_model.specs.declared.played.Played.{Played}
 use Rattle.running_model.specs.Slots.{Slot, Free, Mine, Torn, both, all, slot_at, only, all_of, Parties, no_parties, both_parties}
 use Rattle.running_model.specs.SlotLaws.{no_parties_add, slot_of_all}
 use Rattle.running_model.specs.Words.{AllHold, AreApart, IsStepOn, IsOnNoWord, effect}
-use Rattle.running_model.specs.Plays.{fresh_call, Coming, IsPlayed, act_at, Leads, Led, IsStepAt, MayStep, Went, HasStepped, WentBy, WentAlone, ComesBy, events_of}
-use Rattle.running_model.specs.Passes.{played, none_played, both_played, counted_in, PlaysAndCounts, GoesOnCounting, StaysCounting, HasNeeds, GoesOnByActs, StaysOnNoWord, SameOnNoWord, Stepped, SteppedByAct, Looked}
+use Rattle.running_model.specs.Plays.{fresh_call, Coming, IsPlayed, act_at, Leads, Led, IsStepAt, MayStep, Went, HasStepped, WentBy, ComesBy, events_of}
+use Rattle.running_model.specs.Passes.{played, none_played, both_played, counted_in, PlaysAndCounts, HasNeeds, GoesOnByActs, StaysOnNoWord, SameOnNoWord, SteppedByAct, Learned}
 use Rattle.running_model.proofs.Words.{hold_at, carried_here}
 use Rattle.running_model.proofs.Same.{same_coming}
 use Rattle.running_model.proofs.Ready.{AllMatch, ready, still, came, step_event, steps}
@@ -139,45 +139,10 @@ module _ {V P : Type 0} (m : Model V P) (names : List Word) where
     says_alone : (v : View (Played M Q V C)) (rest : Played M Q V C) → rest ≡ none_played none → (past : List (Event V)) → follow past (add v.tally.counts rest.counts) → follow past v.tally.counts
     says_alone v rest blank past says = subst (follow past) (ap (λ (u : Played M Q V C). add v.tally.counts u.counts) blank ∙ unit v.tally.counts) says
 
-    pub updates :
-        ((n : ℕ) (past : List (Event V)) → IsPast m.arithmetic m.table n past → m.law past) → AreApart names → StaysOnNoWord follow → (coming : Coming V) (v : View (Played M Q V C)) (i : ℕ) (intent : Word → Intent V) (f shows : ℕ → ℕ)
-        (tells : View C → ℕ → View C → Type 0) → MayStep m names coming i intent v.tally.parties → ((w : Word) (n : ℕ) → effect (intent w) n ≡ f n) →
-        ((w : Word) (n : ℕ) → carried_out (intent w) (λ _. n) ≡ carried_out (intent w) (λ _. shows n)) →
-        Updates none add agree (counted_in v) i f (λ found. tells (counted_in v) (shows found)) → GoesOnCounting m names add agree follow coming i intent v.tally.parties v.tally.counts (tells (counted_in v)) →
-        Updates (none_played none) (both_played add) (PlaysAndCounts m names agree follow) v i f (λ found. Stepped m follow coming tells v (shows found))
-    updates lawful apart quiet coming v i intent f shows tells may leaves so counts goes = record {
-      may = λ found homes rest r alone fits.
-          let x : ℕ = get_or found i 0 in
-          let Says : List (Event V) → Type 0 = λ past. follow past (add v.tally.counts rest.counts) in
-          let a = makes lawful apart coming found v.tally.parties rest.parties i (f x) (shows x) intent may (λ w. leaves w x) (λ w. so w x) r.played Says (λ past e silent is. quiet past e (add v.tally.counts rest.counts) silent is) r.follows in
-          let b = counts.may found homes rest.counts r.agrees (λ whole. ap (λ (u : Played M Q V C). u.counts) (alone whole)) fits in (
-            view_of b.0.part b.0.sights (played a.after b.0.tally),
-            b.1,
-            record {
-              played = made_run _ _ _ _ _ _ _ _ _ _ _ _ _ a;
-              agrees = b.2;
-              follows = goes may.call may.place may.hold may.done may.comes a.past a.latest (shows x) a.step may.name may.named a.act_is rest.counts b.0 b.3 (record { words = found; homes = homes; hold = a.words; agreed = r.agrees; made = set found i (f x); agrees = b.2 }) a.says;
-            },
-            record {
-              went = a.went;
-              alone = λ whole call place hold done comes. record {
-                parties = r.played.parties;
-                past = r.played.past;
-                run = r.played.run;
-                law = r.played.law;
-                says = says_alone v rest (alone whole) r.played.past r.follows;
-                each = subst (λ (u : Parties V). AllMatch (all_of u) r.played.past) (ap (λ (u : Played M Q V C). both_parties v.tally.parties u.parties) (alone whole) ∙ no_parties_add v.tally.parties) r.played.each;
-                found_is = found_so coming v.tally.parties i (shows x) intent may r.played.past a.found_is call place hold done comes;
-              };
-              told = b.3;
-            },
-          );
-    }
-
-    -- or what its act does, where the words are asked for nothing
+    -- what its act does
     pub updates_by_act :
-        ((n : ℕ) (past : List (Event V)) → IsPast m.arithmetic m.table n past → m.law past) → AreApart names → StaysOnNoWord follow → ((found : List ℕ) (homes : List (maybe.Option (Unit {0}))) (c : C) → agree found homes c) →
-        (sees : Act V → Sights → Sights) (after : List (Event V) → Act V → Call V → C → C) (needs : Act V → C → Type 0) → SameOnNoWord after → GoesOnByActs m add follow after needs → (coming : Coming V) (v : View (Played M Q V C)) (i : ℕ) (intent : Word → Intent V) (f shows : ℕ → ℕ) →
+        ((n : ℕ) (past : List (Event V)) → IsPast m.arithmetic m.table n past → m.law past) → AreApart names → StaysOnNoWord follow → ((past : List (Event V)) (found : List ℕ) (homes : List (maybe.Option (Unit {0}))) (c : C) → follow past c → agree found homes c) →
+        (sees : Act V → Sights → Sights) (after : List (Event V) → P → Act V → Call V → C → C) (needs : Act V → C → Type 0) → SameOnNoWord after → GoesOnByActs m add follow after needs → (coming : Coming V) (v : View (Played M Q V C)) (i : ℕ) (intent : Word → Intent V) (f shows : ℕ → ℕ) →
         MayStep m names coming i intent v.tally.parties → HasNeeds names i needs intent v.tally.counts →
         ((w : Word) (n : ℕ) → effect (intent w) n ≡ f n) → ((w : Word) (n : ℕ) → carried_out (intent w) (λ _. n) ≡ carried_out (intent w) (λ _. shows n)) →
         Updates (none_played none) (both_played add) (PlaysAndCounts m names agree follow) v i f (λ found. SteppedByAct m add follow sees after coming v (shows found))
@@ -185,18 +150,15 @@ module _ {V P : Type 0} (m : Model V P) (names : List Word) where
       may = λ found homes rest r alone fits.
           let x : ℕ = get_or found i 0 in
           let act : Act V = act_at m may.place may.hold (shows x) in
-          let counts : C = after r.played.past act may.call v.tally.counts in
-          let Says : List (Event V) → Type 0 = λ past. follow past (add v.tally.counts rest.counts) × (after past act may.call v.tally.counts ≡ counts) in
+          let counts : C = after r.played.past may.place act may.call v.tally.counts in
+          let Says : List (Event V) → Type 0 = λ past. follow past (add v.tally.counts rest.counts) × (after past may.place act may.call v.tally.counts ≡ counts) in
           let a = makes lawful apart coming found v.tally.parties rest.parties i (f x) (shows x) intent may (λ w. leaves w x) (λ w. so w x) r.played Says
-          (λ past e silent is. (quiet past e (add v.tally.counts rest.counts) silent is.0, same past e act may.call v.tally.counts silent ∙ is.1)) (r.follows, refl) in (
+          (λ past e silent is. (quiet past e (add v.tally.counts rest.counts) silent is.0, same past e may.place act may.call v.tally.counts silent ∙ is.1)) (r.follows, refl) in
+          let follows : follow (a.latest ∷ a.past) (add counts rest.counts) = subst (λ (c : C). follow (a.latest ∷ a.past) (add c rest.counts)) (ap (λ (act : Act V). after a.past may.place act may.call v.tally.counts) a.step.act ∙ a.says.1)
+          (goes may.call may.place may.hold a.past a.latest (shows x) a.step v.tally.counts rest.counts (subst (λ (act : Act V). needs act v.tally.counts) (sym a.act_is) (has may.name (shows x) may.named)) a.says.0) in (
             view_of v.part (sees act v.sights) (played a.after counts),
             refl,
-            record {
-              played = made_run _ _ _ _ _ _ _ _ _ _ _ _ _ a;
-              agrees = free _ _ _;
-              follows = subst (λ (c : C). follow (a.latest ∷ a.past) (add c rest.counts)) (ap (λ (act : Act V). after a.past act may.call v.tally.counts) a.step.act ∙ a.says.1)
-                  (goes may.call may.place may.hold a.past a.latest (shows x) a.step v.tally.counts rest.counts (subst (λ (act : Act V). needs act v.tally.counts) (sym a.act_is) (has may.name (shows x) may.named)) a.says.0);
-            },
+            record { played = made_run _ _ _ _ _ _ _ _ _ _ _ _ _ a; agrees = free _ _ _ _ follows; follows = follows },
             record {
               went = a.went;
               by = a.by;
@@ -215,21 +177,22 @@ module _ {V P : Type 0} (m : Model V P) (names : List Word) where
                 };
                 told = λ call place hold done comes.
                     let here = same_coming m coming may.call call may.place place may.hold hold may.done done v.tally.parties may.comes comes in
-                    λ j. view_of v.part (sees (act_at m (here.same_place j) (here.same_hold j) (shows x)) v.sights) (after r.played.past (act_at m (here.same_place j) (here.same_hold j) (shows x)) (here.same_call j) v.tally.counts);
+                    λ j. view_of v.part (sees (act_at m (here.same_place j) (here.same_hold j) (shows x)) v.sights) (after r.played.past (here.same_place j) (act_at m (here.same_place j) (here.same_hold j) (shows x)) (here.same_call j) v.tally.counts);
               };
             },
           );
     }
 
-    -- a load that is no step lets the parties be
-    pub looks :
-        (v : View (Played M Q V C)) (i : ℕ) (tells : View C → ℕ → View C → Type 0) → Updates none add agree (counted_in v) i (λ n. n) (tells (counted_in v)) → StaysCounting m names add agree follow v.tally.counts (tells (counted_in v)) →
-        Updates (none_played none) (both_played add) (PlaysAndCounts m names agree follow) v i (λ n. n) (Looked tells v)
-    looks v i tells counts stays = record {
+    -- A load that is no step lets the parties be. What the pass knows then was known before, so all together know and count as they did.
+    pub learns : (core : C → C) → IsTally none add core → (v : View (Played M Q V C)) (i : ℕ) →
+        Updates (none_played none) (both_played add) (PlaysAndCounts m names agree follow) v i (λ n. n) (λ _ w. Learned m add core follow v w)
+    learns core laws v i = record {
       may = λ found homes rest r alone fits.
-          let b = counts.may found homes rest.counts r.agrees (λ whole. ap (λ (u : Played M Q V C). u.counts) (alone whole)) fits in (
-            view_of b.0.part b.0.sights (played v.tally.parties b.0.tally),
-            b.1,
+          let all : C = add v.tally.counts rest.counts in
+          let knows : C = add (core all) v.tally.counts in
+          let as_before : all ≡ add knows rest.counts = sym (laws.group (core all) v.tally.counts rest.counts ∙ laws.copy all) in (
+            view_of v.part v.sights (played v.tally.parties knows),
+            refl,
             record {
               played = record {
                 parties = r.played.parties;
@@ -239,10 +202,10 @@ module _ {V P : Type 0} (m : Model V P) (names : List Word) where
                 hold = subst (λ (ws : List ℕ). AllHold names ws (word_in m.table r.played.past)) (sym (set_as_it_was found i)) r.played.hold;
                 each = r.played.each;
               };
-              agrees = b.2;
-              follows = stays r.played.past (get_or found i 0) rest.counts b.0 b.3 (record { words = found; homes = homes; hold = r.played.hold; agreed = r.agrees; made = set found i (get_or found i 0); agrees = b.2 }) r.follows;
+              agrees = subst (λ (ws : List ℕ). agree ws homes (add knows rest.counts)) (sym (set_as_it_was found i)) (subst (agree found homes) as_before r.agrees);
+              follows = subst (follow r.played.past) as_before r.follows;
             },
-            record { parties = refl; told = b.3 },
+            record { parties = r.played.parties; past = r.played.past; run = r.played.run; rest = rest.counts; says = r.follows; now = refl },
           );
     }
 

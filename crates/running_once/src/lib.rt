@@ -83,7 +83,7 @@ impl Counts<(), u64> for Runs {
 
     ghost stays = { λ _. runs_stay };
 
-    ghost opens = { λ _. runs_open };
+    ghost opens = { λ _ _ _. runs_open };
 }
 
 impl CountsByActs<(), OnceScript, OncePlace, u64> for Runs {
@@ -92,13 +92,13 @@ impl CountsByActs<(), OnceScript, OncePlace, u64> for Runs {
     ghost use Rattle.running_once.specs.OnceRule.{runs_after, runs_needed};
     ghost use Rattle.running_once.specs.OnceTally.{runs_go_on};
 
-    ghost free = { λ _ _ _ _. tt };
+    ghost free = { λ _ _ _ _ _ _. tt };
 
     ghost sees = { sights_after };
 
-    ghost after = { λ _ _. runs_after };
+    ghost after = { λ _ _ _. runs_after };
 
-    ghost same = { λ _ _ _ _ _ _ _. refl };
+    ghost same = { λ _ _ _ _ _ _ _ _. refl };
 
     ghost needs = { runs_needed };
 

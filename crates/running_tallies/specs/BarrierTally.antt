@@ -60,8 +60,8 @@ pub rounds_stay : (n : ℕ) → StaysOnNoWord (AreRoundsIn n)
 rounds_stay n past e counts quiet is = subst (λ (a : ℕ). AreRounds n a counts) (sym (same_arrivals past e quiet)) is
 
 -- and each act makes the same after them
-pub rounds_same : (n : ℕ) → SameOnNoWord (rounds_after n)
-rounds_same n past e act call counts quiet = ap (λ (a : ℕ). rounds_with n (a / n) act counts) (same_arrivals past e quiet)
+pub rounds_same : (n : ℕ) → SameOnNoWord {P = BarrierPlace} (λ past _. rounds_after n past)
+rounds_same n past e place act call counts quiet = ap (λ (a : ℕ). rounds_with n (a / n) act counts) (same_arrivals past e quiet)
 
 pub no_rounds_first : (n : ℕ) → AreRoundsIn n [] no_rounds
 no_rounds_first n = record {
@@ -165,7 +165,7 @@ module _ (n : ℕ) (past : List (Event ℕ)) (call : Call ℕ) (t rest : Rounds)
     goes_at BarrierPlace.Wake nil = not_more (both_rounds t rest) is
     goes_at (BarrierPlace.Stay epoch spins) nil = sees
 
-pub rounds_go_on : (n : ℕ) → n < 2 ^ 32 → GoesOnByActs (barrier_model n) both_rounds (AreRoundsIn n) (rounds_after n) (λ _ _. Unit {0})
+pub rounds_go_on : (n : ℕ) → n < 2 ^ 32 → GoesOnByActs (barrier_model n) both_rounds (AreRoundsIn n) (λ past _. rounds_after n past) (λ _ _. Unit {0})
 rounds_go_on n fits call place hold past e found step t rest needs is =
     let law = (keeps_barrier u64_arithmetic n step.parties (e ∷ past) fits step.run).law in
     let was = step.law.law in

@@ -85,7 +85,7 @@ impl Counts<u32, u64> for Rounds {
 
     ghost stays = { λ key. rounds_stay (key % 2 ^ 32) };
 
-    ghost opens = { λ key. no_rounds_first (key % 2 ^ 32) };
+    ghost opens = { λ key _ _. no_rounds_first (key % 2 ^ 32) };
 }
 
 impl CountsByActs<u32, BarrierScript, BarrierPlace, u64> for Rounds {
@@ -94,11 +94,11 @@ impl CountsByActs<u32, BarrierScript, BarrierPlace, u64> for Rounds {
     ghost use Rattle.running_tallies.specs.BarrierRule.{rounds_after};
     ghost use Rattle.running_tallies.specs.BarrierTally.{rounds_same, rounds_go_on, waiters_fit};
 
-    ghost free = { λ _ _ _ _. tt };
+    ghost free = { λ _ _ _ _ _ _. tt };
 
     ghost sees = { sights_after };
 
-    ghost after = { λ key. rounds_after (key % 2 ^ 32) };
+    ghost after = { λ key past _. rounds_after (key % 2 ^ 32) past };
 
     ghost same = { λ key. rounds_same (key % 2 ^ 32) };
 
