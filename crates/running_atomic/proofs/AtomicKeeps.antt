@@ -1,17 +1,18 @@
--- Each step of an atomic keeps its rule.
-use Rattle.running_atomic.specs.Names.{MatchBool, Arithmetic, IsValue, IsClosed, View, IsWhole, looked, missed, wrote, Updates, one_more, Held, Free, Reading, Writing, Torn, both_held, Locks, value_after, answer_to, after_acts}
-use Rattle.running_atomic.proofs.Names.{◌≡◌, ℕ, ◌+◌, ◌-◌, ◌%◌, ◌^◌, ◌<◌, ◌==◌, Bool, true, false, List, [], ◌∷◌, ◌++◌, get_or, set, sym, refl, ap, ◌∙◌, subst, arith, length-set, get_or-set_same, get_or-set_other, None}
-use prog.Atomic.{either}
-use Rattle.running_passes.proofs.Updates.{by_look, by_exchange}
+-- What a step makes of what a pass saw and counts, and what the run says of it.
+use Rattle.running_atomic.specs.Names.{not, MatchBool, HoldKind, Word, Call, Answer, Act, Event, Intent, Arithmetic, IsValue, IsClosed, AtomicPlace, word_in, carried_out, value_told, View, IsWhole, looked, missed, wrote, view_of, view, Pass, Coming, Going, MayStep, IsShare, Acted, Learned, ToldAt, parties_of, counts_of, counted, counted_in, Parties, one_more, both_counts, Held, Free, Reading, Writing, Torn, both_held, Locks, atomic_table, RegisterAct, plain, update, ends_at_look, acts_of_run, register_after, value_after, answer_to, after_acts, choice_for}
+use Rattle.running_atomic.proofs.Names.{◌≡◌, ◌≢◌, ℕ, ◌+◌, ◌-◌, ◌%◌, ◌^◌, ◌<◌, ◌==◌, Bool, true, false, cond, List, [], ◌∷◌, ◌++◌, Option, Some, None, length, sym, refl, ap, ◌∙◌, subst, arith, ne_eqb, eqb-true, eqb-false, register_by_acts}
+use Rattle.running_model.proofs.Steps.{found_there}
 use Rattle.running_atomic.specs.declared.history.AtomicTally.{AtomicTally}
 use Rattle.running_atomic.specs.declared.history.Content.{Content}
 use Rattle.running_atomic.specs.declared.history.AtomicAct.{AtomicAct}
 use Rattle.running_atomic.specs.declared.history.Heard.{Heard}
-use Rattle.running_atomic.specs.History.{content, heard, both_heard, atomic_tally, no_acts, both_tallies, heard_adds_up, same_content, tells_same_content}
-use Rattle.running_atomic.specs.AtomicRule.{IsRegister, HasHistory, AtomicAgrees, data_of, register_of, value_of, act_in, acts_in, history_in, known, each_once}
-use Rattle.running_atomic.specs.AtomicSteps.{StartsWith, now_holds, EntersRead, EntersWrite, Leaves, IfHeld, ReadsLow, ReadsHigh, EndsLoad, IfWriting, StoresLow, EndsStore, EndsUnchanged, Settles, Acts, ActsAt, Records, IsReading, IsSettled, IsWriting, IsOn, IsRight, KeepsOthers, ComparesHigh, IsLast}
-use Rattle.running_atomic.proofs.LockKeeps.{enters_read, enters_write, reads, leaves_read, writes}
-use Rattle.running_atomic.proofs.HistoryKeeps.{begins, alone, marks_in, more, extends, absorbs, absorbs_first, keeps_more, seen_known, acts_append, acts_length, each_act}
+use Rattle.running_atomic.specs.History.{content, heard, both_heard, atomic_tally, both_tallies, known_tally, heard_adds_up, same_content, tells_same_content}
+use Rattle.running_atomic.specs.AtomicModel.{atomic_model, atomic_names}
+use Rattle.running_atomic.specs.AtomicParties.{IsAtHigh, IsAtLook, ComesAgain, IsAtPutHigh}
+use Rattle.running_atomic.specs.AtomicRule.{register_of, value_of, act_in, acts_in, history_in, history_of_run, written, IsWritten, known, each_once, data_in, held_after, stored, more, heard_after, tally_after, lock_sights, IsRegister}
+use Rattle.running_atomic.specs.AtomicSteps.{PlayedAtomic, StartsWith, now_holds, EntersRead, EntersWrite, Leaves, IfHeld, ReadsLow, ReadsHigh, EndsLoad, IfWriting, StoresLow, EndsStore, EndsUnchanged, Settles, Acts, ActsAt, IsReading, IsSettled, IsWriting, IsOn, IsRight, IsStoring, ComparesHigh, IsComparing, IsLast}
+use Rattle.running_atomic.specs.LockKeeps.{reads, writes}
+use Rattle.running_atomic.specs.HistoryKeeps.{begins, marks_in, grows_own, seen_known, acts_append, acts_length, each_act, absorbs_first}
 
 abbrev B : Type 0
 B = AtomicTally
@@ -50,217 +51,249 @@ known_so P Q (Reading m x) so p = so x p
 known_so P Q (Writing x t) so p = so x p
 known_so P Q Torn so p = p
 
-data_set : (words : List ℕ) (n : ℕ) → data_of (set words 0 n) ≡ data_of words
-data_set words n = λ i. content (get_or-set_other words 0 1 n 0 (λ e. absurd (omega arith)) i) (get_or-set_other words 0 2 n 0 (λ e. absurd (omega arith)) i)
-
 module _ {T : Type 0} (z : Arithmetic T) (k : T) where
-  abbrev Update : View B → ℕ → (ℕ → ℕ) → (ℕ → View B → Type 0) → Type 0
-  Update = Updates no_acts both_tallies (AtomicAgrees z k)
+  abbrev P : Type 0
+  P = Pass (PlayedAtomic T)
 
-  -- the lock's word and the holds change, and the history does not
-  relock : (words : List ℕ) (n : ℕ) (held other : Held Content) (shared : Heard) → IsRegister z k words (atomic_tally held shared) → Locks n (data_of words) other → register_of other (data_of words) ≡ register_of held (data_of words)
-      → IsRegister z k (set words 0 n) (atomic_tally other shared)
-  relock words n held other shared r locks same = let d = data_set words n in let three = r.three_words in record {
-    closed = r.closed;
-    opening_is = r.opening_is;
-    three_words = length-set words 0 n ∙ three;
-    locks = subst (λ (w : ℕ). Locks w (data_of (set words 0 n)) other) (sym (get_or-set_same words 0 n 0 (omega (arith, three)))) (subst (λ (e : Content). Locks n e other) (sym d) locks);
-    has = subst (HasHistory z k shared) (ap (value_of z) (sym same ∙ ap (register_of other) (sym d))) r.has;
-  }
+  abbrev Share : Coming T → ℕ → P → Type 0
+  Share way found p = IsShare (atomic_model z k) both_tallies (IsRegister z k) way (view p) found
 
-  pub opens : (low high : ℕ) → IsClosed z → IsValue z k → z.of_words low high ≡ k → IsRegister z k (0 ∷ low ∷ high ∷ []) no_acts
-  opens low high closed value is = record { closed = closed; opening_is = value; three_words = refl; locks = record { word_is = refl; room = omega arith; knows = tt }; has = record { history = []; seen = refl; own = refl; value_is = sym is } }
+  abbrev Did : Coming T → ℕ → P → P → Type 0
+  Did way found p q = Acted (atomic_model z k) both_tallies (IsRegister z k) lock_sights (tally_after z k) way (view p) found (view q)
 
-  pub looks : (v : View B) → Update v 0 (λ n. n) (λ found w. w ≡ looked v found)
-  looks v = by_look no_acts both_tallies (AtomicAgrees z k) v 0 (λ found w. w ≡ looked v found) (λ words homes rest r only fits. (looked v (get_or words 0 0), refl, r, refl))
+  -- a step on the word of this name
+  module _ (way : Coming T) (i : ℕ) (intent : Word → Intent T) (found : ℕ) (p : P) (may : MayStep (atomic_model z k) atomic_names way i intent (parties_of p)) (name : Word) (named : name ≡ may.name) where
+    told_there : (q : P) (acted : Did way found p q) →
+        counted q ≡ view_of (counted p).part (lock_sights (carried_out (intent name) (λ _. found)) (counted p).sights) (tally_after z k acted.share.past may.place (carried_out (intent name) (λ _. found)) may.call (counts_of p))
+    told_there q acted = acted.told may.call may.place may.hold may.done may.comes
+        ∙ ap (λ (j : Intent T). view_of (counted p).part (lock_sights (carried_out j (λ _. found)) (counted p).sights) (tally_after z k acted.share.past may.place (carried_out j (λ _. found)) may.call (counts_of p))) (may.intends ∙ sym (ap intent named))
 
-  pub read_enters : (v : View B) (old new : ℕ) → v.tally.hold ≡ Free → old < 2 ^ 64 - 2 → new ≡ old + 1 → Update v 0 (λ n. either (n == old) new n) (EntersRead old v)
-  read_enters v old new free room next = by_exchange no_acts both_tallies (AtomicAgrees z k) v 0 old new (EntersRead old v)
-      (λ words homes rest r only fits hit. let d : Content = data_of words in
-      let alone : Locks old d rest.hold = subst (λ (h : Held Content). Locks old d (both_held same_content h rest.hold)) free (subst (λ (n : ℕ). Locks n d (both_held same_content v.tally.hold rest.hold)) hit r.locks) in let t = enters_read same_content tells_same_content old d rest.hold alone room in (
-        now_holds (Reading 0 d) v,
-        refl,
-        relock words new (both_held same_content v.tally.hold rest.hold) (both_held same_content (Reading 0 d) rest.hold) (both_heard v.tally.heard rest.heard) r (subst (λ (n : ℕ). Locks n d (both_held same_content (Reading 0 d) rest.hold)) (sym next) t.0) (t.1 ∙ ap (λ (h : Held Content). register_of (both_held same_content h rest.hold) d) (sym free)),
-        record { done = λ _. (d, refl); failed = λ miss. absurd (miss hit) },
-      ))
-      (λ words homes rest r only fits miss. (missed v old (get_or words 0 0), refl, r, record { done = λ hit. absurd (miss hit); failed = λ _. refl }))
+    held_there : (s : Share way found p) → ((w : Word) (memory : Word → ℕ) → value_told (carried_out (intent w) memory) ≡ Some (memory w)) → found ≡ word_in (atomic_table z k) s.past name
+    held_there s tells = found_there _ _ _ _ intent (parties_of p) may name named found tells (word_in (atomic_table z k) s.past) s.found_is
 
-  pub write_enters : (v : View B) → v.tally.hold ≡ Free → Update v 0 (λ n. either (n == 0) (2 ^ 64 - 1) n) (EntersWrite v)
-  write_enters v free = by_exchange no_acts both_tallies (AtomicAgrees z k) v 0 0 (2 ^ 64 - 1) (EntersWrite v)
-      (λ words homes rest r only fits hit. let d : Content = data_of words in
-      let alone : Locks 0 d rest.hold = subst (λ (h : Held Content). Locks 0 d (both_held same_content h rest.hold)) free (subst (λ (n : ℕ). Locks n d (both_held same_content v.tally.hold rest.hold)) hit r.locks) in let t = enters_write same_content tells_same_content d rest.hold alone in (
-        now_holds (Writing d d) v,
-        refl,
-        relock words (2 ^ 64 - 1) (both_held same_content v.tally.hold rest.hold) (both_held same_content (Writing d d) rest.hold) (both_heard v.tally.heard rest.heard) r t.0 (t.1 ∙ ap (λ (h : Held Content). register_of (both_held same_content h rest.hold) d) (sym free)),
-        record { done = λ _. (d, refl); failed = λ miss. absurd (miss hit) },
-      ))
-      (λ words homes rest r only fits miss. (missed v 0 (get_or words 0 0), refl, r, record { done = λ hit. absurd (miss hit); failed = λ _. refl }))
+  -- what the hold of the pass knows is so
+  knows_there : (way : Coming T) (found : ℕ) (p : P) (s : Share way found p) → IsOn (counts_of p).hold → IfHeld (counts_of p).hold (λ x. x ≡ data_in (word_in (atomic_table z k) s.past))
+  knows_there way found p s on = knows _ _ (counts_of p).hold s.rest.hold s.says.locks on
 
-  pub read_leaves : (v : View B) → IsReading v.tally.hold → Update v 0 (λ n. (n + (2 ^ 64 - 1)) % 2 ^ 64) (λ _ w. Leaves v w)
-  read_leaves v on = record {
-    may = λ words homes rest r only fits. let x = (reading_is v.tally.hold on).0 in let is = (reading_is v.tally.hold on).1 in let d : Content = data_of words in let n : ℕ = get_or words 0 0 in
-        let t = leaves_read same_content tells_same_content n d x rest.hold (subst (λ (h : Held Content). Locks n d (both_held same_content h rest.hold)) is r.locks) fits in
-        (now_holds Free v, refl, relock words ((n + (2 ^ 64 - 1)) % 2 ^ 64) (both_held same_content v.tally.hold rest.hold) rest.hold (both_heard v.tally.heard rest.heard) r t.0 (t.1 ∙ ap (λ (h : Held Content). register_of (both_held same_content h rest.hold) d) (sym is)), refl);
-  }
+  -- The lock.
 
-  pub write_leaves : (v : View B) → IsSettled v.tally.hold → Update v 0 (λ _. 0) (λ _ w. Leaves v w)
-  write_leaves v on = record {
-    may = λ words homes rest r only fits. let x = (settled_is v.tally.hold on).0 in let is = (settled_is v.tally.hold on).1 in let d : Content = data_of words in let n : ℕ = get_or words 0 0 in
-        let t = writes same_content tells_same_content n d x x rest.hold (subst (λ (h : Held Content). Locks n d (both_held same_content h rest.hold)) is r.locks) in (
-          now_holds Free v,
-          refl,
-          relock words 0 (both_held same_content v.tally.hold rest.hold) rest.hold (both_heard v.tally.heard rest.heard) r (subst (Locks 0 d) (sym t.0) (record { word_is = omega arith; room = omega arith; knows = tt }))
-              (ap (λ (h : Held Content). register_of h d) t.0 ∙ sym t.2 ∙ ap (λ (h : Held Content). register_of (both_held same_content (Writing x x) h) d) (sym t.0) ∙ ap (λ (h : Held Content). register_of (both_held same_content h rest.hold) d) (sym is)),
-          refl,
-        );
-  }
+  pub looks : (way : Coming T) (found : ℕ) (p q : P) → MayStep (atomic_model z k) atomic_names way 0 (λ w. Intent.Load w) (parties_of p) → Did way found p q → counted q ≡ looked (counted p) found
+  looks way found p q may acted = told_there way 0 (λ w. Intent.Load w) found p may Word.State may.named q acted
 
-  pub reads_low : (v : View B) → IsOn v.tally.hold → Update v 1 (λ n. n) (ReadsLow v)
-  reads_low v on = by_look no_acts both_tallies (AtomicAgrees z k) v 1 (ReadsLow v) (λ words homes rest r only fits. let d : Content = data_of words in
-      (v, refl, r, (refl, known_so (λ x. x ≡ d) (λ x. d.low ≡ x.low) v.tally.hold (λ x is. ap (λ (c : Content). c.low) (sym is)) (knows (get_or words 0 0) d v.tally.hold rest.hold r.locks on))))
+  -- an exchange, by whether it is done
+  exchanged : (way : Coming T) (from to found : ℕ) (p q : P) → MayStep (atomic_model z k) atomic_names way 0 (λ w. Intent.Exchange w from to) (parties_of p) → (acted : Did way found p q) → (x : Content) × (b : Bool) × ((found == from) ≡ b)
+      × (counted q ≡ cond b (now_holds (cond (to == 2 ^ 64 - 1) (Writing x x) (Reading 0 x)) (counted p)) (missed (counted p) from found))
+  exchanged way from to found p q may acted = by_test (found == from) refl
+    where
+      x : Content
+      x = data_in (word_in (atomic_table z k) acted.share.past)
 
-  pub reads_high : (v : View B) → IsOn v.tally.hold → Update v 2 (λ n. n) (ReadsHigh v)
-  reads_high v on = by_look no_acts both_tallies (AtomicAgrees z k) v 2 (ReadsHigh v) (λ words homes rest r only fits. let d : Content = data_of words in
-      (v, refl, r, (refl, known_so (λ x. x ≡ d) (λ x. d.high ≡ x.high) v.tally.hold (λ x is. ap (λ (c : Content). c.high) (sym is)) (knows (get_or words 0 0) d v.tally.hold rest.hold r.locks on))))
+      by_test : (b : Bool) → (found == from) ≡ b → (x : Content) × (b : Bool) × ((found == from) ≡ b) × (counted q ≡ cond b (now_holds (cond (to == 2 ^ 64 - 1) (Writing x x) (Reading 0 x)) (counted p)) (missed (counted p) from found))
+      by_test true test = (x, true, test, told_there way 0 (λ w. Intent.Exchange w from to) found p may Word.State may.named q acted
+          ∙ ap (λ (b : Bool). view_of (counted p).part (lock_sights {T = T} (Act.Exchange Word.State from to found b) (counted p).sights) (tally_after z k acted.share.past may.place (Act.Exchange Word.State from to found b) may.call (counts_of p))) test)
+      by_test false test = (x, false, test, told_there way 0 (λ w. Intent.Exchange w from to) found p may Word.State may.named q acted
+          ∙ ap (λ (b : Bool). view_of (counted p).part (lock_sights {T = T} (Act.Exchange Word.State from to found b) (counted p).sights) (tally_after z k acted.share.past may.place (Act.Exchange Word.State from to found b) may.call (counts_of p))) test)
 
-  -- the view after one act more, with this hold
-  abbrev after : List AtomicAct → AtomicAct → Held Content → View B → View B
-  after h a held v = wrote v (atomic_tally held (more z h a v.tally.heard))
+  pub read_enters : (way : Coming T) (from to found : ℕ) (p q : P) → MayStep (atomic_model z k) atomic_names way 0 (λ w. Intent.Exchange w from to) (parties_of p) → from < 2 ^ 64 - 2 → to ≡ from + 1 → Did way found p q → EntersRead from (counted p) found (counted q)
+  read_enters way from to found p q may room next acted = let made = exchanged way from to found p q may acted in by_made made.0 made.1 made.2 made.3
+    where
+      small : (to == 2 ^ 64 - 1) ≡ false
+      small = ne_eqb to (2 ^ 64 - 1) (λ full. omega (arith, full, next, room))
 
-  -- what the pass may say of one act more
-  acts : (v : View B) (rest : B) (held : Held Content) (a : AtomicAct) (old : T) (has : HasHistory z k (both_heard v.tally.heard rest.heard) old) → (IsWhole v.part → rest ≡ no_acts)
-      → Acts z k (act_in z a) (answer_to z (act_in z a) old) v (after has.history a held v)
-  acts v rest held a old has only = let h : List AtomicAct = has.history in let w : View B = after h a held v in let new = extends z k v.tally.heard rest.heard a old has in
-      let all : history_in z w.tally.heard ≡ acts_in z (h ++ a ∷ []) = seen_known z w.tally.heard (h ++ a ∷ []) refl in record {
-        before = acts_in z h;
-        answered = ap (answer_to z (act_in z a)) has.value_is;
-        begins = begins z h v.tally.heard rest.heard has.seen;
-        alone = λ whole. sym (alone z h v.tally.heard rest.heard has.seen (ap (λ (b : B). b.heard) (only whole)));
-        seen = all ∙ acts_append z h (a ∷ []);
-        own = ap (λ n. one_more n v.tally.heard.own) (sym (acts_length z h));
-        marks = marks_in z (h ++ a ∷ []) w.tally.heard.own rest.heard.own new.own (history_in z w.tally.heard) all;
-        part = refl;
+      by_made : (x : Content) (b : Bool) → (found == from) ≡ b → counted q ≡ cond b (now_holds (cond (to == 2 ^ 64 - 1) (Writing x x) (Reading 0 x)) (counted p)) (missed (counted p) from found) → EntersRead from (counted p) found (counted q)
+      by_made x true test is = record { done = λ hit. (x, is ∙ ap (λ (b : Bool). now_holds (cond b (Writing x x) (Reading 0 x)) (counted p)) small); failed = λ miss. absurd (miss (eqb-true found from test)) }
+      by_made x false test is = record { done = λ hit. absurd (eqb-false found from test hit); failed = λ miss. is }
+
+  pub write_enters : (way : Coming T) (found : ℕ) (p q : P) → MayStep (atomic_model z k) atomic_names way 0 (λ w. Intent.Exchange w 0 (2 ^ 64 - 1)) (parties_of p) → Did way found p q → EntersWrite (counted p) found (counted q)
+  write_enters way found p q may acted = let made = exchanged way 0 (2 ^ 64 - 1) found p q may acted in by_made made.0 made.1 made.2 made.3
+    where
+      by_made : (x : Content) (b : Bool) → (found == 0) ≡ b → counted q ≡ cond b (now_holds (Writing x x) (counted p)) (missed (counted p) 0 found) → EntersWrite (counted p) found (counted q)
+      by_made x true test is = record { done = λ hit. (x, is); failed = λ miss. absurd (miss (eqb-true found 0 test)) }
+      by_made x false test is = record { done = λ hit. absurd (eqb-false found 0 test hit); failed = λ miss. is }
+
+  pub read_leaves : (way : Coming T) (found : ℕ) (p q : P) → MayStep (atomic_model z k) atomic_names way 0 (λ w. Intent.Subtract w 1) (parties_of p) → Did way found p q → Leaves (counted p) (counted q)
+  read_leaves way found p q may acted = told_there way 0 (λ w. Intent.Subtract w 1) found p may Word.State may.named q acted
+
+  pub write_leaves : (way : Coming T) (p q : P) → MayStep (atomic_model z k) atomic_names way 0 (λ w. Intent.Store w 0) (parties_of p) → Did way 0 p q → Leaves (counted p) (counted q)
+  write_leaves way p q may acted = told_there way 0 (λ w. Intent.Store w 0) 0 p may Word.State may.named q acted
+
+  -- The data words.
+
+  pub reads_low : (way : Coming T) (found : ℕ) (p q : P) → MayStep (atomic_model z k) atomic_names way 1 (λ w. Intent.Load w) (parties_of p) → IsOn (counts_of p).hold → Did way found p q → ReadsLow (counted p) found (counted q)
+  reads_low way found p q may on acted =
+      let s = acted.share in
+      let is = held_there way 1 (λ w. Intent.Load w) found p may Word.Low may.named s (λ w memory. refl) in
+      let d : Content = data_in (word_in (atomic_table z k) s.past) in
+      (told_there way 1 (λ w. Intent.Load w) found p may Word.Low may.named q acted, known_so (λ x. x ≡ d) (λ x. found ≡ x.low) (counts_of p).hold (λ x there. is ∙ ap (λ (c : Content). c.low) (sym there)) (knows_there way found p s on))
+
+  high_found : (way : Coming T) (found : ℕ) (p : P) → MayStep (atomic_model z k) atomic_names way 2 (λ w. Intent.Load w) (parties_of p) → IsOn (counts_of p).hold → Share way found p → IfHeld (counts_of p).hold (λ x. found ≡ x.high)
+  high_found way found p may on s =
+      let is = held_there way 2 (λ w. Intent.Load w) found p may Word.High may.named s (λ w memory. refl) in
+      let d : Content = data_in (word_in (atomic_table z k) s.past) in
+      known_so (λ x. x ≡ d) (λ x. found ≡ x.high) (counts_of p).hold (λ x there. is ∙ ap (λ (c : Content). c.high) (sym there)) (knows_there way found p s on)
+
+  pub stores_low : (way : Coming T) (new : ℕ) (p q : P) → MayStep (atomic_model z k) atomic_names way 1 (λ w. Intent.Store w new) (parties_of p) → IsWriting (counts_of p).hold → Did way new p q → StoresLow (counted p) new (counted q)
+  stores_low way new p q may on acted =
+      let x = writing_is (counts_of p).hold on in
+      let told = told_there way 1 (λ w. Intent.Store w new) new p may Word.Low may.named q acted in
+      subst (λ (h : Held Content). IfWriting h (λ c found. counted q ≡ now_holds (Writing (content new c.high) found) (counted p))) (sym x.2) (told ∙ ap (λ (h : Held Content). now_holds (held_after {T = T} (data_in (word_in (atomic_table z k) acted.share.past)) (Act.Store Word.Low new) h) (counted p)) x.2)
+
+  -- The acts.
+
+  -- what the pass may say of an act of its own, at this value
+  acts_so : (way : Coming T) (found : ℕ) (p : P) (s : Share way found p) (q : P) (a : RegisterAct T) (old : T) → register_after z k s.past ≡ old → IsWritten z a → (counts_of q).heard ≡ more (history_of_run z s.past) (written z a) (counts_of p).heard →
+      (counted q).part ≡ (counted p).part → Acts z k a (answer_to z a old) (counted p) (counted q)
+  acts_so way found p s q a old at valid knows part =
+      let h : List AtomicAct = history_of_run z s.past in
+      let says = s.says in
+      let longer : (counts_of q).heard.seen ≡ known (h ++ written z a ∷ []) = ap (λ (t : Heard). t.seen) knows in
+      let seen : history_in z (counts_of q).heard ≡ acts_in z (h ++ written z a ∷ []) = seen_known z (counts_of q).heard (h ++ written z a ∷ []) longer in
+      record {
+        before = acts_of_run z s.past;
+        answered = ap (answer_to z a) (register_by_acts z k s.past ∙ at);
+        begins = subst (λ l. StartsWith l (history_in z (counts_of p).heard)) says.acts_are (begins z h (counts_of p).heard s.rest.heard says.seen);
+        alone = λ whole. let own = (s.alone whole).1 in sym (seen_known z (counts_of p).heard h own.seen ∙ own.acts_are);
+        seen = seen ∙ acts_append z h (written z a ∷ []) ∙ (λ i. says.acts_are i ++ valid i ∷ []);
+        own = ap (λ (t : Heard). t.own) knows ∙ ap (λ n. one_more n (counts_of p).heard.own) (sym (acts_length z h) ∙ ap length says.acts_are);
+        marks = marks_in z (h ++ written z a ∷ []) (counts_of q).heard.own s.rest.heard.own (ap (λ (t : Heard). both_counts t.own s.rest.heard.own) knows ∙ grows_own h (written z a) (counts_of p).heard.own s.rest.heard.own says.own) (history_in z (counts_of q).heard) seen;
+        part = part;
       }
 
-  -- and what all passes may say of it
-  recorded : (v : View B) (rest : B) (held : Held Content) (a : AtomicAct) (old : T) (has : HasHistory z k (both_heard v.tally.heard rest.heard) old) → Records a v (after has.history a held v)
-  recorded v rest held a old has = record { before = has.history; seen = refl; knew = keeps_more has.history (a ∷ []) v.tally.heard.seen rest.heard.seen has.seen; own = refl }
+  -- the register, under a hold of the pass's own
 
-  pub ends_load : (v : View B) → IsReading v.tally.hold → Update v 2 (λ n. n) (EndsLoad z k v)
-  ends_load v on = by_look no_acts both_tallies (AtomicAgrees z k) v 2 (EndsLoad z k v) (λ words homes rest r only fits. let x = (reading_is v.tally.hold on).0 in let is = (reading_is v.tally.hold on).1 in let d : Content = data_of words in let n : ℕ = get_or words 0 0 in
-      let t = reads same_content tells_same_content n d x rest.hold (subst (λ (h : Held Content). Locks n d (both_held same_content h rest.hold)) is r.locks) in
-      let old_is : register_of (both_held same_content v.tally.hold rest.hold) d ≡ x = ap (λ (h : Held Content). register_of (both_held same_content h rest.hold) d) is ∙ t.1 ∙ sym t.0 in
-      let has : HasHistory z k (both_heard v.tally.heard rest.heard) (value_of z x) = subst (HasHistory z k (both_heard v.tally.heard rest.heard)) (ap (value_of z) old_is) r.has in
-      let w : View B = after has.history AtomicAct.Load v.tally.hold v in (
-        w,
-        refl,
-        record { closed = r.closed; opening_is = r.opening_is; three_words = r.three_words; locks = r.locks; has = subst (HasHistory z k (both_heard w.tally.heard rest.heard)) (ap (value_of z) (sym old_is)) (extends z k v.tally.heard rest.heard AtomicAct.Load (value_of z x) has) },
-        (refl, subst (λ (h : Held Content). IfHeld h (λ c. (d.high ≡ c.high) × ActsAt z k AtomicAct.Load c v w)) (sym is) (ap (λ (c : Content). c.high) (sym t.0), acts v rest v.tally.hold AtomicAct.Load (value_of z x) has only), recorded v rest v.tally.hold AtomicAct.Load (value_of z x) has),
-      ))
+  module _ (way : Coming T) (found : ℕ) (p : P) (s : Share way found p) where
+    abbrev n : ℕ
+    n = word_in (atomic_table z k) s.past Word.State
 
-  pub stores_low : (v : View B) (new : ℕ) → IsWriting v.tally.hold → Update v 1 (λ _. new) (λ _. StoresLow v new)
-  stores_low v new on = record {
-    may = λ words homes rest r only fits. let x = (writing_is v.tally.hold on).0 in let u = (writing_is v.tally.hold on).1 in let is = (writing_is v.tally.hold on).2 in let d : Content = data_of words in let n : ℕ = get_or words 0 0 in let three = r.three_words in
-        let t = writes same_content tells_same_content n d x u rest.hold (subst (λ (h : Held Content). Locks n d (both_held same_content h rest.hold)) is r.locks) in
-        let h : Held Content = Writing (content new x.high) u in let w : View B = now_holds h v in
-        let lone : both_held same_content h rest.hold ≡ h = ap (both_held same_content h) t.0 in
-        let words_are : content new x.high ≡ data_of (set words 1 new) = λ i. content (sym (get_or-set_same words 1 new 0 (omega (arith, three))) i) ((ap (λ (c : Content). c.high) t.2 ∙ sym (get_or-set_other words 1 2 new 0 (λ e. absurd (omega arith)))) i) in (
-          w,
-          refl,
-          record {
-            closed = r.closed;
-            opening_is = r.opening_is;
-            three_words = length-set words 1 new ∙ three;
-            locks = subst (Locks (get_or (set words 1 new) 0 0) (data_of (set words 1 new))) (sym lone) (record { word_is = get_or-set_other words 1 0 new 0 (λ e. absurd (omega arith)) ∙ t.1; room = omega arith; knows = words_are });
-            has = subst (HasHistory z k (both_heard v.tally.heard rest.heard)) (ap (value_of z) (ap (λ (g : Held Content). register_of (both_held same_content g rest.hold) d) is ∙ ap (λ (g : Held Content). register_of (both_held same_content (Writing x u) g) d) t.0 ∙ sym (ap (λ (g : Held Content). register_of g (data_of (set words 1 new))) lone))) r.has;
-          },
-          subst (λ (g : Held Content). IfWriting g (λ c m. w ≡ now_holds (Writing (content new c.high) m) v)) (sym is) refl,
-        );
-  }
+    abbrev d : Content
+    d = data_in (word_in (atomic_table z k) s.past)
 
-  pub ends_store : (v : View B) (new : ℕ) (a : AtomicAct) → IsWriting v.tally.hold → IsRight z a new v.tally.hold → Update v 2 (λ _. new) (λ _. EndsStore z k a v new)
-  ends_store v new a on so = record {
-    may = λ words homes rest r only fits. let x = (writing_is v.tally.hold on).0 in let u = (writing_is v.tally.hold on).1 in let is = (writing_is v.tally.hold on).2 in let d : Content = data_of words in let n : ℕ = get_or words 0 0 in let three = r.three_words in
-        let t = writes same_content tells_same_content n d x u rest.hold (subst (λ (h : Held Content). Locks n d (both_held same_content h rest.hold)) is r.locks) in
-        let right = subst (IsRight z a new) is so in
-        let has : HasHistory z k (both_heard v.tally.heard rest.heard) (value_of z u) = subst (HasHistory z k (both_heard v.tally.heard rest.heard)) (ap (value_of z) (ap (λ (g : Held Content). register_of (both_held same_content g rest.hold) d) is ∙ ap (λ (g : Held Content). register_of (both_held same_content (Writing x u) g) d) t.0)) r.has in
-        let h : Held Content = Writing (content x.low new) (content x.low new) in let w : View B = after has.history a h v in
-        let lone : both_held same_content h rest.hold ≡ h = ap (both_held same_content h) t.0 in
-        let words_are : content x.low new ≡ data_of (set words 2 new) = λ i. content ((ap (λ (c : Content). c.low) t.2 ∙ sym (get_or-set_other words 2 1 new 0 (λ e. absurd (omega arith)))) i) (sym (get_or-set_same words 2 new 0 (omega (arith, three))) i) in (
-          w,
-          refl,
-          record {
-            closed = r.closed;
-            opening_is = r.opening_is;
-            three_words = length-set words 2 new ∙ three;
-            locks = subst (Locks (get_or (set words 2 new) 0 0) (data_of (set words 2 new))) (sym lone) (record { word_is = get_or-set_other words 2 0 new 0 (λ e. absurd (omega arith)) ∙ t.1; room = omega arith; knows = words_are });
-            has = subst (HasHistory z k (both_heard w.tally.heard rest.heard)) (right ∙ ap (value_of z) (sym (ap (λ (g : Held Content). register_of g (data_of (set words 2 new))) lone))) (extends z k v.tally.heard rest.heard a (value_of z u) has);
-          },
-          subst (λ (g : Held Content). IfWriting g (λ c found. (h ≡ Writing (content c.low new) (content c.low new)) × ActsAt z k a found v w × Records a v w)) (sym is) (refl, acts v rest h a (value_of z u) has only, recorded v rest h a (value_of z u) has),
-        );
-  }
+    known_value : (h : Held Content) → (counts_of p).hold ≡ h → register_after z k s.past ≡ value_of z (register_of (both_held same_content h s.rest.hold) d)
+    known_value h is = sym s.says.value_is ∙ ap (λ (g : Held Content). value_of z (register_of (both_held same_content g s.rest.hold) d)) is
 
-  pub ends_unchanged : (v : View B) → IsSettled v.tally.hold → Update v 2 (λ n. n) (λ _ w. EndsUnchanged z k (AtomicAct.FetchUpdate None) v w)
-  ends_unchanged v on = by_look no_acts both_tallies (AtomicAgrees z k) v 2 (λ _ w. EndsUnchanged z k (AtomicAct.FetchUpdate None) v w) (λ words homes rest r only fits. let x = (settled_is v.tally.hold on).0 in let is = (settled_is v.tally.hold on).1 in let d : Content = data_of words in let n : ℕ = get_or words 0 0 in
-      let t = writes same_content tells_same_content n d x x rest.hold (subst (λ (h : Held Content). Locks n d (both_held same_content h rest.hold)) is r.locks) in
-      let old_is : value_of z (register_of (both_held same_content v.tally.hold rest.hold) d) ≡ value_of z x = ap (value_of z) (ap (λ (g : Held Content). register_of (both_held same_content g rest.hold) d) is ∙ ap (λ (g : Held Content). register_of (both_held same_content (Writing x x) g) d) t.0) in
-      let has : HasHistory z k (both_heard v.tally.heard rest.heard) (value_of z x) = subst (HasHistory z k (both_heard v.tally.heard rest.heard)) old_is r.has in
-      let w : View B = after has.history (AtomicAct.FetchUpdate None) v.tally.hold v in (
-        w,
-        refl,
-        record { closed = r.closed; opening_is = r.opening_is; three_words = r.three_words; locks = r.locks; has = subst (HasHistory z k (both_heard w.tally.heard rest.heard)) (sym old_is) (extends z k v.tally.heard rest.heard (AtomicAct.FetchUpdate None) (value_of z x) has) },
-        (refl, subst (λ (g : Held Content). IfWriting g (λ c found. ActsAt z k (AtomicAct.FetchUpdate None) found v w)) (sym is) (acts v rest v.tally.hold (AtomicAct.FetchUpdate None) (value_of z x) has only), recorded v rest v.tally.hold (AtomicAct.FetchUpdate None) (value_of z x) has),
-      ))
+    reads_register : (x : Content) → (counts_of p).hold ≡ Reading 0 x → register_after z k s.past ≡ value_of z x
+    reads_register x is =
+        let t = reads same_content tells_same_content n d x s.rest.hold (subst (λ (h : Held Content). Locks n d (both_held same_content h s.rest.hold)) is s.says.locks) in
+        known_value (Reading 0 x) is ∙ ap (value_of z) (t.1 ∙ sym t.0)
+
+    writes_register : (x u : Content) → (counts_of p).hold ≡ Writing x u → (register_after z k s.past ≡ value_of z u) × (x ≡ d)
+    writes_register x u is =
+        let t = writes same_content tells_same_content n d x u s.rest.hold (subst (λ (h : Held Content). Locks n d (both_held same_content h s.rest.hold)) is s.says.locks) in
+        (known_value (Writing x u) is ∙ ap (λ (g : Held Content). value_of z (register_of (both_held same_content (Writing x u) g) d)) t.0, t.2)
+
+  -- a load of the high word, after which the call goes on, or by which it acts
+
+  pub reads_high : (found : ℕ) (p q : P) → MayStep (atomic_model z k) atomic_names Going 2 (λ w. Intent.Load w) (parties_of p) → IsOn (counts_of p).hold → IsAtLook z k (parties_of p) → Did Going found p q → ReadsHigh (counted p) found (counted q)
+  reads_high found p q may on looks acted =
+      (acted.told looks.call (AtomicPlace.High looks.call looks.low) looks.at.hold looks.at.done looks.at.at
+      ∙ ap (λ (b : Bool). view_of (counted p).part (counted p).sights (atomic_tally (counts_of p).hold (heard_if acted.share.past b (counts_of p).heard))) (looks.goes_on (z.of_words looks.low found)), high_found Going found p may on acted.share)
+    where
+      heard_if : List (Event T) → Bool → Heard → Heard
+      heard_if past b t = heard_after z (history_of_run z past) (cond b (Some (plain looks.call)) None) t
+
+  pub ends_load : (low found : ℕ) (p q : P) → MayStep (atomic_model z k) atomic_names Going 2 (λ w. Intent.Load w) (parties_of p) → IsReading (counts_of p).hold → IsAtHigh z k Call.Load low (parties_of p) → Did Going found p q → EndsLoad z k (counted p) found (counted q)
+  ends_load low found p q may on at acted =
+      let s = acted.share in
+      let x = reading_is (counts_of p).hold on in
+      let told : counted q ≡ view_of (counted p).part (counted p).sights (atomic_tally (counts_of p).hold (more (history_of_run z s.past) AtomicAct.Load (counts_of p).heard)) = acted.told Call.Load (AtomicPlace.High Call.Load low) at.hold at.done at.at in
+      let is_on : IsOn (counts_of p).hold = subst IsOn (sym x.1) refl in
+      (ap (λ (v : View B). v.tally.hold) told,
+      subst (λ (h : Held Content). IfHeld h (λ c. (found ≡ c.high) × ActsAt z k AtomicAct.Load c (counted p) (counted q))) (sym x.1)
+      (subst (λ (h : Held Content). IfHeld h (λ c. found ≡ c.high)) x.1 (high_found Going found p may is_on s),
+      acts_so Going found p s q (plain Call.Load) (value_of z x.0) (reads_register Going found p s x.0 x.1) refl (ap (λ (v : View B). v.tally.heard) told) (ap (λ (v : View B). v.part) told)))
+
+  pub ends_unchanged : (way : Coming T) (found : ℕ) (p q : P) → IsSettled (counts_of p).hold → ComesAgain z k way (parties_of p) → Did way found p q → EndsUnchanged z k (AtomicAct.FetchUpdate None) (counted p) (counted q)
+  ends_unchanged way found p q on again acted =
+      let s = acted.share in
+      let x = settled_is (counts_of p).hold on in
+      let told : counted q ≡ view_of (counted p).part (counted p).sights (atomic_tally (counts_of p).hold (more (history_of_run z s.past) (AtomicAct.FetchUpdate None) (counts_of p).heard)) = acted.told Call.FetchUpdate (AtomicPlace.Again again.old) (Some HoldKind.Write) again.done again.comes in
+      (ap (λ (v : View B). v.tally.hold) told,
+      subst (λ (h : Held Content). IfWriting h (λ c old. ActsAt z k (AtomicAct.FetchUpdate None) old (counted p) (counted q))) (sym x.1)
+      (acts_so way found p s q (update None) (value_of z x.0) (writes_register way found p s x.0 x.0 x.1).0 refl (ap (λ (v : View B). v.tally.heard) told) (ap (λ (v : View B). v.part) told)))
 
   -- by the value that is compared: where it is another, the act is made
-  comparing : (words : List ℕ) (v : View B) (rest : B) (a : AtomicAct) (current : T) (x : Content) (b : Bool) → z.same (value_of z x) current ≡ b → v.tally.hold ≡ Writing x x →
-      (z.same (value_of z x) current ≡ false → value_after z (act_in z a) (value_of z x) ≡ value_of z x) → IsRegister z k words (both_tallies v.tally rest) → (IsWhole v.part → rest ≡ no_acts) →
-      (w : View B) × (w.part ≡ v.part) × IsRegister z k words (both_tallies w.tally rest) × MatchBool b (w ≡ v) (EndsUnchanged z k a v w)
-  comparing words v rest a current x true same is so r only = (v, refl, r, refl)
-  comparing words v rest a current x false same is so r only = let d : Content = data_of words in let n : ℕ = get_or words 0 0 in
-      let t = writes same_content tells_same_content n d x x rest.hold (subst (λ (h : Held Content). Locks n d (both_held same_content h rest.hold)) is r.locks) in
-      let old_is : value_of z (register_of (both_held same_content v.tally.hold rest.hold) d) ≡ value_of z x = ap (value_of z) (ap (λ (g : Held Content). register_of (both_held same_content g rest.hold) d) is ∙ ap (λ (g : Held Content). register_of (both_held same_content (Writing x x) g) d) t.0) in
-      let has : HasHistory z k (both_heard v.tally.heard rest.heard) (value_of z x) = subst (HasHistory z k (both_heard v.tally.heard rest.heard)) old_is r.has in
-      let w : View B = after has.history a v.tally.hold v in (
-        w,
-        refl,
-        record { closed = r.closed; opening_is = r.opening_is; three_words = r.three_words; locks = r.locks; has = subst (HasHistory z k (both_heard w.tally.heard rest.heard)) (so same ∙ sym old_is) (extends z k v.tally.heard rest.heard a (value_of z x) has) },
-        (refl, subst (λ (g : Held Content). IfWriting g (λ c found. ActsAt z k a found v w)) (sym is) (acts v rest v.tally.hold a (value_of z x) has only), recorded v rest v.tally.hold a (value_of z x) has),
-      )
+  pub compares_high : (a : AtomicAct) (current : T) (found : ℕ) (p q : P) → MayStep (atomic_model z k) atomic_names Going 2 (λ w. Intent.Load w) (parties_of p) → IsSettled (counts_of p).hold → IsWritten z (act_in z a) → IsComparing z k a current (counts_of p).hold (parties_of p) →
+      Did Going found p q → ComparesHigh z k a current (counted p) found (counted q)
+  compares_high a current found p q may on valid comparing acted =
+      subst (λ (h : Held Content). IfWriting h (λ c old. (found ≡ c.high) × MatchBool (z.same (value_of z c) current) (counted q ≡ counted p) (EndsUnchanged z k a (counted p) (counted q)))) (sym is) (high_is, by_same (z.same (value_of z x) current) refl)
+    where
+      s : Share Going found p
+      s = acted.share
 
-  pub compares_high : (v : View B) (a : AtomicAct) (current : T) → IsSettled v.tally.hold → KeepsOthers z a current v.tally.hold → Update v 2 (λ n. n) (ComparesHigh z k a current v)
-  compares_high v a current on so = by_look no_acts both_tallies (AtomicAgrees z k) v 2 (ComparesHigh z k a current v) (λ words homes rest r only fits. let x = (settled_is v.tally.hold on).0 in let is = (settled_is v.tally.hold on).1 in let d : Content = data_of words in let n : ℕ = get_or words 0 0 in
-      let t = writes same_content tells_same_content n d x x rest.hold (subst (λ (h : Held Content). Locks n d (both_held same_content h rest.hold)) is r.locks) in
-      let made = comparing words v rest a current x (z.same (value_of z x) current) refl is (subst (KeepsOthers z a current) is so) r only in (
-        made.0,
-        made.1,
-        made.2,
-        subst (λ (g : Held Content). IfWriting g (λ c old. (d.high ≡ c.high) × MatchBool (z.same (value_of z c) current) (made.0 ≡ v) (EndsUnchanged z k a v made.0))) (sym is) (ap (λ (c : Content). c.high) (sym t.2), made.3),
-      ))
+      settled : (x : Content) × ((counts_of p).hold ≡ Writing x x)
+      settled = settled_is (counts_of p).hold on
 
-  pub settles : (v : View B) → Update v 0 (λ n. n) (λ _ w. Settles z k v w)
-  settles v = by_look no_acts both_tallies (AtomicAgrees z k) v 0 (λ _ w. Settles z k v w) (λ words homes rest r only fits. let h : List AtomicAct = r.has.history in let has = r.has in let w : View B = wrote v (atomic_tally v.tally.hold (heard (known h) v.tally.heard.own)) in
-      let all : history_in z w.tally.heard ≡ acts_in z h = seen_known z w.tally.heard h refl in (
-        w,
-        refl,
-        record { closed = r.closed; opening_is = r.opening_is; three_words = r.three_words; locks = r.locks; has = record { history = h; seen = absorbs v.tally.heard.seen rest.heard.seen (known h) has.seen; own = has.own; value_is = has.value_is } },
-        record {
-          history = h;
-          seen = refl;
-          keeps = absorbs_first v.tally.heard.seen rest.heard.seen (known h) has.seen;
-          knew = λ a b is. let sum_is : (both_heard (both_heard a b) rest.heard).seen ≡ known h = ap (λ (t : Heard). (both_heard t rest.heard).seen) (sym is) ∙ has.seen in (
-            subst (λ l. StartsWith l (history_in z a)) (sym all) (begins z h a (both_heard b rest.heard) (sym (heard_group a b rest.heard) ∙ sum_is)),
-            subst (λ l. StartsWith l (history_in z b)) (sym all) (begins z h b (both_heard a rest.heard) (sym (heard_group b a rest.heard) ∙ ap (λ (t : Heard). (both_heard t rest.heard).seen) (heard_adds_up.swap b a) ∙ sum_is)),
-          );
-          own = refl;
-          marks = marks_in z h v.tally.heard.own rest.heard.own has.own (history_in z w.tally.heard) all;
-          part = refl;
-          hold = refl;
-        },
-      ))
+      x : Content
+      x = settled.0
 
-  pub lasts : (v : View B) (words : List ℕ) (low high : ℕ) → IsRegister z k words v.tally → v.tally.hold ≡ Free → get_or words 1 0 ≡ low → get_or words 2 0 ≡ high → IsLast z k v.tally.heard (z.of_words low high)
-  lasts v words low high r free is also = let has = r.has in let all = seen_known z v.tally.heard has.history has.seen in record {
-    own = has.own ∙ sym (each_act z has.history) ∙ ap each_once (sym all);
-    value_is = (λ i. z.of_words (sym is i) (sym also i)) ∙ ap (λ (h : Held Content). value_of z (register_of h (data_of words))) (sym free) ∙ sym has.value_is ∙ ap (after_acts z k) (sym all);
+      is : (counts_of p).hold ≡ Writing x x
+      is = settled.1
+
+      high_is : found ≡ x.high
+      high_is = subst (λ (h : Held Content). IfHeld h (λ c. found ≡ c.high)) is (high_found Going found p may (subst IsOn (sym is) tt) s)
+
+      low_is : comparing.low ≡ x.low
+      low_is = subst (λ (h : Held Content). IfWriting h (λ c old. comparing.low ≡ c.low)) is comparing.low_is
+
+      ends : ends_at_look z comparing.call None (z.of_words comparing.low found) ≡ not (z.same (value_of z x) current)
+      ends = comparing.acts (z.of_words comparing.low found) ∙ (λ i. not (z.same (z.of_words (low_is i) (high_is i)) current))
+
+      told : (b : Bool) → not (z.same (value_of z x) current) ≡ b → counted q ≡ view_of (counted p).part (counted p).sights (atomic_tally (counts_of p).hold (heard_after z (history_of_run z s.past) (cond b (Some (plain comparing.call)) None) (counts_of p).heard))
+      told b same = acted.told comparing.call (AtomicPlace.High comparing.call comparing.low) comparing.at.hold comparing.at.done comparing.at.at
+          ∙ ap (λ (b : Bool). view_of (counted p).part (counted p).sights (atomic_tally (counts_of p).hold (heard_after z (history_of_run z s.past) (cond b (Some (plain comparing.call)) None) (counts_of p).heard))) (ends ∙ same)
+
+      by_same : (b : Bool) → z.same (value_of z x) current ≡ b → MatchBool b (counted q ≡ counted p) (EndsUnchanged z k a (counted p) (counted q))
+      by_same true same = told false (ap not same)
+      by_same false same =
+          let made = told true (ap not same) in
+          (ap (λ (v : View B). v.tally.hold) made,
+          subst (λ (h : Held Content). IfWriting h (λ c old. ActsAt z k a old (counted p) (counted q))) (sym is)
+          (acts_so Going found p s q (act_in z a) (value_of z x) (writes_register Going found p s x x is).0 valid
+          (ap (λ (v : View B). v.tally.heard) made ∙ ap (λ (r : RegisterAct T). more (history_of_run z s.past) (written z r) (counts_of p).heard) (sym comparing.is_act)) (ap (λ (v : View B). v.part) made)))
+
+  -- the act of a call that stores
+  stored_is : (a : AtomicAct) (new : T) → IsStoring a → ((x : Content) → a ≡ AtomicAct.FetchUpdate (Some x) → value_of z x ≡ new) → stored z (act_in z a).call new ≡ act_in z a
+  stored_is (AtomicAct.FetchUpdate (Some x)) new stores makes = ap (λ (v : T). update (Some v)) (sym (makes x refl))
+  stored_is (AtomicAct.FetchUpdate None) new stores makes = absurd stores
+  stored_is other new stores makes = refl
+
+  pub ends_store : (a : AtomicAct) (new : ℕ) (p q : P) → IsWriting (counts_of p).hold → IsRight z a new (counts_of p).hold → IsStoring a → IsWritten z (act_in z a) → IsAtPutHigh z k (act_in z a).call new (parties_of p) → Did Going new p q → EndsStore z k a (counted p) new (counted q)
+  ends_store a new p q on right stores valid puts acted =
+      let s = acted.share in
+      let w = writing_is (counts_of p).hold on in
+      let x : Content = w.0 in
+      let u : Content = w.1 in
+      let there = writes_register Going new p s x u w.2 in
+      let low : ℕ = word_in (atomic_table z k) s.past Word.Low in
+      let makes : value_after z (act_in z a) (value_of z u) ≡ z.of_words low new = subst (λ (h : Held Content). IfWriting h (λ c old. value_after z (act_in z a) (value_of z old) ≡ z.of_words c.low new)) w.2 right ∙ ap (λ (c : Content). z.of_words c.low new) there.1 in
+      let told = acted.told (act_in z a).call (AtomicPlace.PutHigh new puts.answer) (Some HoldKind.Write) puts.done puts.at in
+      let act_is : stored z (act_in z a).call (z.of_words low new) ≡ act_in z a = stored_is a (z.of_words low new) stores (λ c is. ap (λ (b : AtomicAct). value_after z (act_in z b) (value_of z u)) (sym is) ∙ makes) in
+      subst (λ (h : Held Content). IfWriting h (λ c found. ((counts_of q).hold ≡ Writing (content c.low new) (content c.low new)) × ActsAt z k a found (counted p) (counted q))) (sym w.2)
+      (ap (λ (v : View B). v.tally.hold) told ∙ ap (λ (h : Held Content). held_after {T = T} (data_in (word_in (atomic_table z k) s.past)) (Act.Store Word.High new) h) w.2,
+      acts_so Going new p s q (act_in z a) (value_of z u) there.0 valid (ap (λ (v : View B). v.tally.heard) told ∙ ap (λ (r : RegisterAct T). more (history_of_run z s.past) (written z r) (counts_of p).heard) act_is) (ap (λ (v : View B). v.part) told))
+
+  -- a load by which a pass knows all of the history
+  pub settles : (v w : View (PlayedAtomic T)) → Learned (atomic_model z k) both_tallies known_tally (IsRegister z k) v w → Settles z k (counted_in v) (counted_in w)
+  settles v w learned =
+      let h : List AtomicAct = history_of_run z learned.past in
+      let says = learned.says in
+      let now : counted_in w ≡ view_of (counted_in v).part (counted_in v).sights (both_tallies (known_tally (both_tallies v.tally.counts learned.rest)) v.tally.counts) = ap (λ (u : View (PlayedAtomic T)). counted_in u) learned.now in
+      let seen : w.tally.counts.heard.seen ≡ known h = ap (λ (v : View B). v.tally.heard.seen) now ∙ ap (λ (l : List _). (both_heard (heard l []) v.tally.counts.heard).seen) says.seen ∙ absorbs_first v.tally.counts.heard.seen learned.rest.heard.seen (known h) says.seen in
+      let all : history_in z w.tally.counts.heard ≡ acts_in z h = seen_known z w.tally.counts.heard h seen in
+      let own : w.tally.counts.heard.own ≡ v.tally.counts.heard.own = ap (λ (v : View B). v.tally.heard.own) now in
+      record {
+        knew = λ a b is. let sum_is : (both_heard (both_heard a b) learned.rest.heard).seen ≡ known h = ap (λ (t : Heard). (both_heard t learned.rest.heard).seen) (sym is) ∙ says.seen in (
+          subst (λ l. StartsWith l (history_in z a)) (sym all) (begins z h a (both_heard b learned.rest.heard) (sym (heard_group a b learned.rest.heard) ∙ sum_is)),
+          subst (λ l. StartsWith l (history_in z b)) (sym all) (begins z h b (both_heard a learned.rest.heard) (sym (heard_group b a learned.rest.heard) ∙ ap (λ (t : Heard). (both_heard t learned.rest.heard).seen) (heard_adds_up.swap b a) ∙ sum_is)),
+        );
+        own = own;
+        marks = marks_in z h w.tally.counts.heard.own learned.rest.heard.own (ap (λ (l : List ℕ). both_counts l learned.rest.heard.own) own ∙ says.own) (history_in z w.tally.counts.heard) all;
+        part = ap (λ (v : View B). v.part) now;
+        hold = ap (λ (v : View B). v.tally.hold) now;
+      }
+
+  pub lasts : (past : List (Event T)) (t : B) (low high : ℕ) → IsRegister z k past t → t.hold ≡ Free → word_in (atomic_table z k) past Word.Low ≡ low → word_in (atomic_table z k) past Word.High ≡ high → IsLast z k t.heard (z.of_words low high)
+  lasts past t low high is free at also = let all = seen_known z t.heard (history_of_run z past) is.seen in record {
+    own = is.own ∙ sym (each_act z (history_of_run z past)) ∙ ap each_once (sym all);
+    value_is = (λ i. z.of_words (sym at i) (sym also i)) ∙ ap (λ (h : Held Content). value_of z (register_of h (data_in (word_in (atomic_table z k) past)))) (sym free) ∙ is.value_is ∙ sym (register_by_acts z k past) ∙ ap (after_acts z k) (sym (all ∙ is.acts_are));
   }

@@ -1,13 +1,10 @@
 pub mod Names
-pub mod LockKeeps
-pub mod HistoryKeeps
 pub mod AtomicKeeps
 pub mod Runs
 pub mod AtEnd
 pub mod OneHistory
 pub mod Joins
 pub mod AtomicPlays
-pub mod HistoryFollows
 pub mod Compares
 pub mod OverCalls
 pub mod Additions

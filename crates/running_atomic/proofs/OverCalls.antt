@@ -6,7 +6,7 @@ use Rattle.running_atomic.specs.declared.history.Content.{Content}
 use Rattle.running_atomic.specs.declared.history.AtomicAct.{AtomicAct}
 use Rattle.running_atomic.specs.History.{content}
 use Rattle.running_atomic.specs.AtomicRule.{value_of, act_in}
-use Rattle.running_atomic.specs.AtomicSteps.{PlayedAtomic, Acts, ActsAt, EntersRead, EntersWrite, EndsLoad, EndsStore, EndsUnchanged, IfHeld, IfWriting, IsReading, IsRight, IsSettled, IsStoring, Leaves, ReadsLow, ReadsHigh, Records, StoresLow, now_holds}
+use Rattle.running_atomic.specs.AtomicSteps.{PlayedAtomic, Acts, ActsAt, EntersRead, EntersWrite, EndsLoad, EndsStore, EndsUnchanged, IfHeld, IfWriting, IsReading, IsRight, IsSettled, IsStoring, Leaves, ReadsLow, ReadsHigh, StoresLow, now_holds}
 use Rattle.running_atomic.specs.AtomicShown.{IsStill, HasGot, HasTaken, HasActedAt, IsHolding}
 use Rattle.running_atomic.proofs.AtomicKeeps.{reading_is, settled_is}
 use Rattle.running_atomic.proofs.Compares.{same_twice, acts_since}
@@ -142,9 +142,9 @@ module _ {T : Type 0} (z : Arithmetic T) where
         )
 
     high_stored : (a : AtomicAct) (x : Content) (low high : ℕ) (p q r : Pass (PlayedAtomic T)) → counted q ≡ now_holds (Writing (content low x.high) x) (counted p) → EndsStore z k a (counted q) high (counted r) →
-        ((counts_of r).hold ≡ Writing (content low high) (content low high)) × ActsAt z k a x (counted q) (counted r) × Records a (counted q) (counted r)
+        ((counts_of r).hold ≡ Writing (content low high) (content low high)) × ActsAt z k a x (counted q) (counted r)
     high_stored a x low high p q r stored ended =
-        subst (λ (h : Held Content). IfWriting h (λ y found. ((counts_of r).hold ≡ Writing (content y.low high) (content y.low high)) × ActsAt z k a found (counted q) (counted r) × Records a (counted q) (counted r))) (ap (λ (v : View AtomicTally). v.tally.hold) stored) ended
+        subst (λ (h : Held Content). IfWriting h (λ y found. ((counts_of r).hold ≡ Writing (content y.low high) (content y.low high)) × ActsAt z k a found (counted q) (counted r))) (ap (λ (v : View AtomicTally). v.tally.hold) stored) ended
 
     -- Both words were stored under the hold, which knows them now.
     pub settles_again : (a : AtomicAct) (low high : ℕ) (p q r : Pass (PlayedAtomic T)) → IsSettled (counts_of p).hold → StoresLow (counted p) low (counted q) → EndsStore z k a (counted q) high (counted r) → IsSettled (counts_of r).hold

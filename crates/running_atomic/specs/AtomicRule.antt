@@ -1,15 +1,15 @@
--- An atomic as one register, by the model's acts; and the rule that ties the one history of all passes to the words.
-use Rattle.running_atomic.specs.Names.{◌≡◌, ℕ, List, [], ◌∷◌, ◌++◌, length, slice_index, Option, Some, None, Call, Act, Event, Arithmetic, IsValue, IsClosed, PendingCall, call_of, RegisterAct, plain, update, after_acts, acts_at, acts_of_run, Held, Free, Reading, Writing, Torn, Locks, IsOnNoWord, on_no_word, StaysOnNoWord}
-use Rattle.std.proofs.Common.{refl, sym, ap, ◌∙◌}
-use Rattle.std.proofs.lemmas.List.{append-nil}
-use mathlib.Core.Option as maybe
+-- An atomic as one register, by the model's acts; what a pass counts of its steps; and what the run says of all passes.
+use Rattle.running_atomic.specs.Names.{◌≡◌, ℕ, ◌-◌, ◌^◌, ◌==◌, true, if◌then◌else◌, List, [], ◌∷◌, ◌++◌, length, slice_index, Option, Some, None, Word, Call, Act, Event, Arithmetic, IsValue, IsClosed, word_in, AtomicPlace, atomic_table, RegisterAct, plain, update, ends_at_look, acts_of_run, register_after, one_more, Held, Free, Reading, Writing, Torn, Locks}
+use Rattle.running_passes.specs.Sights.{seen}
+use Rattle.running_passes.specs.declared.part.Sights.{Sights}
+use Rattle.running_model.specs.Sees.{sights_after}
 use Rattle.running_atomic.specs.declared.history.AtomicTally.{AtomicTally}
 use Rattle.running_atomic.specs.declared.history.Content.{Content}
 use Rattle.running_atomic.specs.declared.history.AtomicAct.{AtomicAct}
 use Rattle.running_atomic.specs.declared.history.Place.{Place}
 use Rattle.running_atomic.specs.declared.history.Place.TheVariants.{Unknown, Is, Torn}
 use Rattle.running_atomic.specs.declared.history.Heard.{Heard}
-use Rattle.running_atomic.specs.History.{content}
+use Rattle.running_atomic.specs.History.{content, heard, atomic_tally}
 
 module _ {T : Type 0} (z : Arithmetic T) where
   abbrev pub value_of : Content → T
@@ -36,6 +36,43 @@ module _ {T : Type 0} (z : Arithmetic T) where
   abbrev pub acts_in : List AtomicAct → List (RegisterAct T)
   acts_in [] = []
   acts_in (a ∷ acts) = act_in a ∷ acts_in acts
+
+  -- and the words of an act
+
+  abbrev words_of : T → Content
+  words_of x = content (z.low x) (z.high x)
+
+  abbrev written_with : Call T → Option (Option T) → AtomicAct
+  written_with (Call.Store x) choice = AtomicAct.Store (words_of x)
+  written_with (Call.Swap x) choice = AtomicAct.Swap (words_of x)
+  written_with (Call.CompareExchange x y) choice = AtomicAct.CompareExchange (words_of x) (words_of y)
+  written_with (Call.CompareExchangeWeak x y) choice = AtomicAct.CompareExchangeWeak (words_of x) (words_of y)
+  written_with (Call.FetchAdd x) choice = AtomicAct.FetchAdd (words_of x)
+  written_with (Call.FetchSub x) choice = AtomicAct.FetchSub (words_of x)
+  written_with (Call.FetchAnd x) choice = AtomicAct.FetchAnd (words_of x)
+  written_with (Call.FetchOr x) choice = AtomicAct.FetchOr (words_of x)
+  written_with (Call.FetchXor x) choice = AtomicAct.FetchXor (words_of x)
+  written_with (Call.FetchNand x) choice = AtomicAct.FetchNand (words_of x)
+  written_with (Call.FetchMax x) choice = AtomicAct.FetchMax (words_of x)
+  written_with (Call.FetchMin x) choice = AtomicAct.FetchMin (words_of x)
+  written_with Call.FetchUpdate (Some (Some x)) = AtomicAct.FetchUpdate (Some (words_of x))
+  written_with Call.FetchUpdate choice = AtomicAct.FetchUpdate None
+  written_with other choice = AtomicAct.Load
+
+  abbrev pub written : RegisterAct T → AtomicAct
+  written a = written_with a.call a.choice
+
+  -- which give it back, where its values are values of their type
+  abbrev pub IsWritten : RegisterAct T → Type 0
+  IsWritten a = act_in (written a) ≡ a
+
+  abbrev pub all_written : List (RegisterAct T) → List AtomicAct
+  all_written [] = []
+  all_written (a ∷ acts) = written a ∷ all_written acts
+
+  -- the acts of a run, in words
+  abbrev pub history_of_run : List (Event T) → List AtomicAct
+  history_of_run past = all_written (acts_of_run z past)
 
 -- the acts that are known from the first on
 abbrev pub prefix : List (Place AtomicAct) → List AtomicAct
@@ -68,34 +105,104 @@ register_of (Reading n x) d = d
 register_of (Writing x found) d = found
 register_of Torn d = d
 
--- There is one history. It is all that is known, each act in it is one pass's own, and it leaves the register at this value.
-pub record HasHistory {T : Type 0} (z : Arithmetic T) (opening : T) (t : Heard) (value : T) : Type 0 where
-  pub history : List AtomicAct
-  pub seen : t.seen ≡ known history
-  pub own : t.own ≡ each_once history
-  pub value_is : after_acts z opening (acts_in z history) ≡ value
+-- one read hold stands
+abbrev pub IsReading : {X : Type 0} → Held X → Type 0
+IsReading Free = ⊥
+IsReading (Reading n x) = n ≡ 0
+IsReading (Writing x found) = ⊥
+IsReading Torn = ⊥
 
--- The opening value is one of the type's, whose operators lead from values to values. There are three words. The lock's counts the holds,
--- each of which knows the data words; and the history leaves the register at what they are, or, under a write hold, at what they were when it
--- came in or last acted.
-pub record IsRegister {T : Type 0} (z : Arithmetic T) (opening : T) (words : List ℕ) (t : AtomicTally) : Type 0 where
+-- a write hold stands
+abbrev pub IsWriting : {X : Type 0} → Held X → Type 0
+IsWriting Free = ⊥
+IsWriting (Reading n x) = ⊥
+IsWriting (Writing x found) = Unit {0}
+IsWriting Torn = ⊥
+
+-- and the data words are the register's
+abbrev pub IsSettled : {X : Type 0} → Held X → Type 0
+IsSettled Free = ⊥
+IsSettled (Reading n x) = ⊥
+IsSettled (Writing x found) = x ≡ found
+IsSettled Torn = ⊥
+
+-- What an act makes of a tally.
+
+-- what the data words hold
+abbrev pub data_in : (Word → ℕ) → Content
+data_in memory = content (memory Word.Low) (memory Word.High)
+
+-- one data word is stored, under a write hold
+abbrev pub put_low : ℕ → Held Content → Held Content
+put_low low (Writing x found) = Writing (content low x.high) found
+put_low low other = other
+
+-- and with the high one the call acts
+abbrev pub put_high : ℕ → Held Content → Held Content
+put_high high (Writing x found) = Writing (content x.low high) (content x.low high)
+put_high high other = other
+
+-- An exchange of the lock's word takes a hold, which knows the data words: for 2 ^ 64 - 1 the write hold. A store of it or a subtraction ends one.
+abbrev pub held_after : {T : Type 0} → Content → Act T → Held Content → Held Content
+held_after d (Act.Exchange Word.State from to found true) h = if to == 2 ^ 64 - 1 then Writing d d else Reading 0 d
+held_after d (Act.Store Word.State put) h = Free
+held_after d (Act.Add Word.State old put) h = Free
+held_after d (Act.Store Word.Low put) h = put_low put h
+held_after d (Act.Store Word.High put) h = put_high put h
+held_after d act h = h
+
+-- the pass knows all of the history, with one act more, which is its own
+abbrev pub more : List AtomicAct → AtomicAct → Heard → Heard
+more h a t = heard (known (h ++ a ∷ [])) (one_more (length h) t.own)
+
+module _ {T : Type 0} (z : Arithmetic T) where
+  -- the act that is a load of the high word at this place, where the low one was told before
+  abbrev pub looked_at : AtomicPlace T → ℕ → Option (RegisterAct T)
+  looked_at (AtomicPlace.High call low) found = if ends_at_look z call None (z.of_words low found) then Some (plain call) else None
+  looked_at (AtomicPlace.Again old) found = Some (update None)
+  looked_at other found = None
+
+  -- and the one that is a store of it, which makes this value
+  abbrev pub stored : Call T → T → RegisterAct T
+  stored Call.FetchUpdate new = update (Some new)
+  stored call new = plain call
+
+  -- the act on the register that an act is, where the low word is this
+  abbrev pub acted_by : ℕ → Act T → AtomicPlace T → Call T → Option (RegisterAct T)
+  acted_by low (Act.Load Word.High found) place call = looked_at place found
+  acted_by low (Act.Store Word.High put) place call = Some (stored call (z.of_words low put))
+  acted_by low act place call = None
+
+  abbrev pub heard_after : List AtomicAct → Option (RegisterAct T) → Heard → Heard
+  heard_after h None t = t
+  heard_after h (Some a) t = more h (written z a) t
+
+  abbrev pub tally_after : T → List (Event T) → AtomicPlace T → Act T → Call T → AtomicTally → AtomicTally
+  tally_after opening past place act call t =
+      atomic_tally (held_after (data_in (word_in (atomic_table z opening) past)) act t.hold) (heard_after (history_of_run z past) (acted_by (word_in (atomic_table z opening) past Word.Low) act place call) t.heard)
+
+-- What an act needs of it: one that takes a hold that there is none, one that ends a hold or writes a data word the hold.
+abbrev pub tally_needs : {T : Type 0} → Act T → AtomicTally → Type 0
+tally_needs (Act.Exchange word from to found done) t = t.hold ≡ Free
+tally_needs (Act.Store Word.State put) t = IsSettled t.hold
+tally_needs (Act.Store word put) t = IsWriting t.hold
+tally_needs (Act.Add word old put) t = IsReading t.hold
+tally_needs act t = Unit {0}
+
+-- The sights are of the lock's word.
+abbrev pub lock_sights : {T : Type 0} → Act T → Sights → Sights
+lock_sights (Act.Load Word.State found) s = seen s found
+lock_sights (Act.Load word found) s = s
+lock_sights act s = sights_after act s
+
+-- The opening value is one of the type's, whose operators lead from values to values. The lock's word counts the holds, each of which knows the
+-- data words. These are the register, or, under a write hold, what they were when it came in or last acted. And what all passes have seen together
+-- is, act for act and in order, what the run has of acts, each of them one pass's own.
+pub record IsRegister {T : Type 0} (z : Arithmetic T) (opening : T) (past : List (Event T)) (t : AtomicTally) : Type 0 where
   pub closed : IsClosed z
   pub opening_is : IsValue z opening
-  pub three_words : length words ≡ 3
-  pub locks : Locks (slice_index words 0) (data_of words) t.hold
-  pub has : HasHistory z opening t.heard (value_of z (register_of t.hold (data_of words)))
-
-abbrev pub AtomicAgrees : {T : Type 0} → Arithmetic T → T → List ℕ → List (maybe.Option (Unit {0})) → AtomicTally → Type 0
-AtomicAgrees z opening words homes = IsRegister z opening words
-
--- what all passes have seen together is, act for act and in order, what this run has of acts
-abbrev pub IsHistoryOf : {T : Type 0} → Arithmetic T → List (Event T) → AtomicTally → Type 0
-IsHistoryOf z past t = history_in z t.heard ≡ acts_of_run z past
-
--- acts on no word are no acts on the register
-no_act : {T : Type 0} (z : Arithmetic T) (k : Option (PendingCall T)) (act : Act T) → IsOnNoWord act → acts_at z k act ≡ []
-no_act z None act quiet = refl
-no_act {T} z (Some c) act quiet = on_no_word (λ (a : Act T). acts_at z (Some c) a ≡ []) (λ call. refl) (λ action. refl) (λ choice. refl) (λ wake. refl) refl (λ value. refl) act quiet
-
-pub history_stays : {T : Type 0} (z : Arithmetic T) → StaysOnNoWord (IsHistoryOf z)
-history_stays z past e t quiet is = is ∙ sym (ap (λ (l : List (RegisterAct _)). acts_of_run z past ++ l) (no_act z (call_of e.party past) e.act quiet) ∙ append-nil (acts_of_run z past))
+  pub locks : Locks (word_in (atomic_table z opening) past Word.State) (data_in (word_in (atomic_table z opening) past)) t.hold
+  pub value_is : value_of z (register_of t.hold (data_in (word_in (atomic_table z opening) past))) ≡ register_after z opening past
+  pub seen : t.heard.seen ≡ known (history_of_run z past)
+  pub own : t.heard.own ≡ each_once (history_of_run z past)
+  pub acts_are : acts_in z (history_of_run z past) ≡ acts_of_run z past

@@ -1,5 +1,5 @@
 -- What the steps of an atomic tell, and what holds whenever its rule does.
-use Rattle.running_atomic.specs.Names.{◌≡◌, ◌≢◌, ℕ, ◌≤◌, false, MatchBool, List, [], ◌∷◌, ◌++◌, length, None, Call, Answer, Arithmetic, View, IsWhole, together, missed, wrote, sum_of, IsCounted, count_at, one_more, both_counts, Held, Free, Reading, Writing, Torn, write_holds, AtomicPlace, RegisterAct, plain, answer_to, value_after, after_acts, Parties, none_played, both_played, PlaysAndCounts}
+use Rattle.running_atomic.specs.Names.{◌≡◌, ◌≢◌, ℕ, false, MatchBool, List, [], ◌∷◌, ◌++◌, length, None, Call, Answer, Arithmetic, IsValue, IsClosed, View, IsWhole, together, missed, wrote, sum_of, IsCounted, one_more, both_counts, Held, Free, Reading, Writing, Torn, write_holds, AtomicPlace, RegisterAct, plain, answer_to, value_after, after_acts, Parties, none_played, both_played, PlaysAndCounts}
 use mathlib.Core.Option as maybe
 use mathlib.Core.Option.{some}
 use lib.ListN.{get_elem?}
@@ -10,11 +10,12 @@ use Rattle.running_atomic.specs.declared.history.AtomicTally.{AtomicTally}
 use Rattle.running_atomic.specs.declared.history.Content.{Content}
 use Rattle.running_atomic.specs.declared.history.AtomicAct.{AtomicAct}
 use Rattle.running_atomic.specs.declared.history.Heard.{Heard}
-use Rattle.running_atomic.specs.Agree.{merge}
-use Rattle.running_atomic.specs.History.{content, both_heard, atomic_tally, both_tallies, no_acts, same_act}
+use Rattle.running_atomic.specs.History.{content, both_heard, atomic_tally, both_tallies, no_acts}
 use Rattle.running_atomic.specs.AtomicModel.{atomic_model, atomic_names}
 use Rattle.running_atomic.specs.AtomicParties.{ActsAtOther, IsAtHigh, StandsAtRun}
-use Rattle.running_atomic.specs.AtomicRule.{value_of, act_in, history_in, known, each_once, data_of, AtomicAgrees, IsHistoryOf}
+pub use Rattle.running_atomic.specs.AtomicRule.{IsReading, IsWriting, IsSettled}
+pub use Rattle.running_atomic.specs.HistoryKeeps.{StartsWith, AreMarks}
+use Rattle.running_atomic.specs.AtomicRule.{value_of, act_in, history_in, each_once, data_of, IsRegister}
 
 abbrev V : Type 0
 V = View AtomicTally
@@ -58,13 +59,6 @@ ReadsHigh v found w = (w ≡ v) × IfHeld v.tally.hold (λ x. found ≡ x.high)
 abbrev pub StoresLow : V → ℕ → V → Type 0
 StoresLow v new w = IfWriting v.tally.hold (λ x found. w ≡ now_holds (Writing (content new x.high) found) v)
 
-abbrev pub StartsWith : {A : Type 0} → List A → List A → Type 0
-StartsWith {A} l first = (rest : List A) × (l ≡ first ++ rest)
-
--- each act in the history is an own one once at most, and none beyond it is
-abbrev pub AreMarks : {A : Type 0} → List ℕ → List A → Type 0
-AreMarks own history = (place : ℕ) → (count_at place own ≤ 1) × (length history ≤ place → count_at place own ≡ 0)
-
 -- One act more, which was answered so: after all that the pass had seen, and what others did since. With no other pass left nobody did.
 pub record Acts {T : Type 0} (z : Arithmetic T) (opening : T) (a : RegisterAct T) (answer : Answer T) (v w : V) : Type 0 where
   pub before : List (RegisterAct T)
@@ -76,49 +70,21 @@ pub record Acts {T : Type 0} (z : Arithmetic T) (opening : T) (a : RegisterAct T
   pub marks : AreMarks w.tally.heard.own (history_in z w.tally.heard)
   pub part : w.part ≡ v.part
 
--- The pass knows all of a history from then on: with what it knew, and with this act, which is its own, as the last.
-pub record Records (a : AtomicAct) (v w : V) : Type 0 where
-  pub before : List AtomicAct
-  pub seen : w.tally.heard.seen ≡ known (before ++ a ∷ [])
-  pub knew : merge same_act w.tally.heard.seen v.tally.heard.seen ≡ w.tally.heard.seen
-  pub own : w.tally.heard.own ≡ one_more (length before) v.tally.heard.own
-
 -- the act of a place, at a register of these words
 abbrev pub ActsAt : {T : Type 0} → Arithmetic T → T → AtomicAct → Content → V → V → Type 0
 ActsAt z opening a found v w = Acts z opening (act_in z a) (answer_to z (act_in z a) (value_of z found)) v w
 
 -- the last access of a load
 abbrev pub EndsLoad : {T : Type 0} → Arithmetic T → T → V → ℕ → V → Type 0
-EndsLoad z opening v found w = (w.tally.hold ≡ v.tally.hold) × IfHeld v.tally.hold (λ x. (found ≡ x.high) × ActsAt z opening AtomicAct.Load x v w) × Records AtomicAct.Load v w
+EndsLoad z opening v found w = (w.tally.hold ≡ v.tally.hold) × IfHeld v.tally.hold (λ x. (found ≡ x.high) × ActsAt z opening AtomicAct.Load x v w)
 
 -- the last access of a call that stores
 abbrev pub EndsStore : {T : Type 0} → Arithmetic T → T → AtomicAct → V → ℕ → V → Type 0
-EndsStore z opening a v new w = IfWriting v.tally.hold (λ x found. (w.tally.hold ≡ Writing (content x.low new) (content x.low new)) × ActsAt z opening a found v w × Records a v w)
+EndsStore z opening a v new w = IfWriting v.tally.hold (λ x found. (w.tally.hold ≡ Writing (content x.low new) (content x.low new)) × ActsAt z opening a found v w)
 
 -- the last access of a call under a write hold that stores nothing
 abbrev pub EndsUnchanged : {T : Type 0} → Arithmetic T → T → AtomicAct → V → V → Type 0
-EndsUnchanged z opening a v w = (w.tally.hold ≡ v.tally.hold) × IfWriting v.tally.hold (λ x found. ActsAt z opening a found v w) × Records a v w
-
--- one read hold stands
-abbrev pub IsReading : {X : Type 0} → Held X → Type 0
-IsReading Free = ⊥
-IsReading (Reading n x) = n ≡ 0
-IsReading (Writing x found) = ⊥
-IsReading Torn = ⊥
-
--- a write hold stands
-abbrev pub IsWriting : {X : Type 0} → Held X → Type 0
-IsWriting Free = ⊥
-IsWriting (Reading n x) = ⊥
-IsWriting (Writing x found) = Unit {0}
-IsWriting Torn = ⊥
-
--- and the data words are the register's
-abbrev pub IsSettled : {X : Type 0} → Held X → Type 0
-IsSettled Free = ⊥
-IsSettled (Reading n x) = ⊥
-IsSettled (Writing x found) = x ≡ found
-IsSettled Torn = ⊥
+EndsUnchanged z opening a v w = (w.tally.hold ≡ v.tally.hold) × IfWriting v.tally.hold (λ x found. ActsAt z opening a found v w)
 
 -- one hold stands
 abbrev pub IsOn : {X : Type 0} → Held X → Type 0
@@ -157,9 +123,6 @@ IsStoring other = Unit {0}
 
 -- all of the history was seen, whose start the pass knew
 pub record Settles {T : Type 0} (z : Arithmetic T) (opening : T) (v w : V) : Type 0 where
-  pub history : List AtomicAct
-  pub seen : w.tally.heard.seen ≡ known history
-  pub keeps : merge same_act w.tally.heard.seen v.tally.heard.seen ≡ w.tally.heard.seen
   pub knew : (a b : Heard) → v.tally.heard ≡ both_heard a b → StartsWith (history_in z w.tally.heard) (history_in z a) × StartsWith (history_in z w.tally.heard) (history_in z b)
   pub own : w.tally.heard.own ≡ v.tally.heard.own
   pub marks : AreMarks w.tally.heard.own (history_in z w.tally.heard)
@@ -189,7 +152,7 @@ all_of views = sum_of (none_played no_acts) (both_played both_tallies) views
 
 -- the rule over all passes of an atomic: its words are those of a run of the model, in which the passes are parties, and the register's
 abbrev pub AtomicRules : {T : Type 0} → Arithmetic T → T → List ℕ → List (maybe.Option (Unit {0})) → PlayedAtomic T → Type 0
-AtomicRules z opening = PlaysAndCounts (atomic_model z opening) atomic_names (AtomicAgrees z opening) (IsHistoryOf z)
+AtomicRules z opening = PlaysAndCounts (atomic_model z opening) atomic_names (λ _ _ _. IsClosed z × IsValue z opening) (IsRegister z opening)
 
 -- Whenever the rule holds there is one history: what each pass has seen begins it, each act in it is one pass's own, and while no write
 -- hold stands the data words are the register after it. It is, act for act and in order, that of a run in which all passes are the parties.

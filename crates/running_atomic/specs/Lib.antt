@@ -4,6 +4,9 @@ pub mod Agree
 pub mod History
 pub mod AtomicModel
 pub mod AtomicRule
+pub mod LockKeeps
+pub mod HistoryKeeps
+pub mod AtomicGoesOn
 pub mod AtomicSteps
 pub mod AtomicParties
 pub mod AtomicShown

@@ -1,23 +1,25 @@
 -- What this crate reads of others.
 pub use Rattle.running_passes.specs.Parts.{IsWhole, together}
 pub use Rattle.running_passes.specs.Passes.{IsSamePass, view, part_of, tally_of}
-pub use Rattle.running_passes.specs.Views.{missed, wrote, sum_of, IsCounted, looked, Updates, joined_view}
+pub use Rattle.running_passes.specs.Views.{missed, wrote, sum_of, IsCounted, looked, view_of, joined_view}
 pub use Rattle.running_passes.specs.declared.pass.Pass.{Pass}
 pub use Rattle.running_passes.specs.declared.view.View.{View}
-pub use Rattle.running_model.specs.Passes.{StaysOnNoWord, parties_of, counts_of, counted, none_played, both_played, PlaysAndCounts, StillAgrees, GoesOnCounting, StaysCounting, core_played, played_add_up}
+pub use Rattle.running_model.specs.Passes.{StaysOnNoWord, parties_of, counts_of, counted, counted_in, none_played, both_played, PlaysAndCounts, SameOnNoWord, GoesOnByActs, IsShare, Acted, Learned, ToldAt, core_played, played_add_up}
 pub use Rattle.running_model.specs.Plays.{events_of, Matches, Coming, ComesBy, IsAt, Leads, HasEnded, HasCalled, Going, Beginning, Choosing, Led, MayStep, Went, IsPlayed}
 pub use Rattle.running_model.specs.Slots.{Slot, Parties, slot_at, all_of}
 pub use Rattle.running_model.specs.Stages.{IsPassOf, key_of}
 pub use Rattle.running_model.specs.Words.{IsOnNoWord, on_no_word, AllHold}
 pub use Rattle.std.specs.Int.{w128, w64}
-pub use Rattle.std.specs.Prelude.{◌≡◌, ◌≢◌, Bool, true, false, cond, List, [], ◌∷◌, ℕ, ◌⊎◌, eqb, ◌&&◌, not, Option, Some, None, ◌++◌, length, slice_index, codes, ◌≤◌, MatchBool, nat_lt}
-pub use Rattle.model_atomic.specs.Register.{RegisterAct, register_after, acts_of_run, ends_at_look, choice_for, plain, update, after_acts, acts_at, answer_to, value_after, Outcome, choice_of, act_by}
-pub use Rattle.model_atomic.specs.Table.{atomic_table, atomic_begins, atomic_grant, puts, inside, knows, look_at, compares}
+pub use Rattle.std.specs.Prelude.{◌≡◌, ◌≢◌, ◌-◌, ◌^◌, ◌==◌, if◌then◌else◌, Bool, true, false, cond, List, [], ◌∷◌, ℕ, ◌⊎◌, eqb, ◌&&◌, not, is_some, Option, Some, None, ◌++◌, length, slice_index, codes, ◌≤◌, MatchBool, nat_lt}
+pub use Rattle.model_atomic.specs.Register.{RegisterAct, register_after, acts_of_run, ends_at_look, choice_for, plain, update, compared, act_of, acted, is_last, answer_of, after_acts, acts_at, answer_to, value_after, Outcome, choice_of, act_by}
+pub use Rattle.model_atomic.specs.Table.{atomic_table, atomic_begins, atomic_grant, atomic_intent, puts, inside, knows, look_at, compares}
+pub use Rattle.model_rw_reader.specs.Table.{release}
 pub use Rattle.model_atomic.specs.declared.AtomicPlace.{AtomicPlace}
 pub use Rattle.model_events.specs.Arithmetic.{Arithmetic, IsValue, IsClosed}
 pub use Rattle.model_events.specs.Integers.{i128_arithmetic, i64_arithmetic, u128_arithmetic, u64_arithmetic}
 pub use Rattle.model_events.specs.Moves.{hold_fault, CallValues, stage_of}
-pub use Rattle.model_events.specs.Past.{PendingCall, call_of, hold_or, word_in}
+pub use Rattle.model_events.specs.Past.{PendingCall, call_of, hold_of, hold_or, word_in, word_after}
+pub use Rattle.model_events.specs.Rows.{carried_out, value_told}
 pub use Rattle.model_events.specs.Runs.{IsPast}
 pub use Rattle.model_events.specs.declared.event.Act.{Act}
 pub use Rattle.model_events.specs.declared.event.Answer.{Answer}

@@ -16,7 +16,7 @@ ghost use Rattle.running_model.specs.Stages.{IsPassOf, key_of};
 ghost use Rattle.running_atomic.specs.AtomicParties.{Writes, AsksNobody, IsNext, Reads, GoesOnKnowing, ActsAtOther, Knows, Puts, MayPut, HasPut, HasReplaced};
 ghost use Rattle.running_atomic.specs.AtomicModel.{atomic_model};
 ghost use Rattle.model_atomic.specs.Register.{act_of as outcome_of, compared, plain, update, value_after, answer_to};
-ghost use Rattle.running_atomic.specs.AtomicRule.{act_in, value_of};
+ghost use Rattle.running_atomic.specs.AtomicRule.{act_in, value_of, IsWritten};
 ghost use Rattle.running_atomic.specs.AtomicSteps.{IsSettled, IfWriting, IsStoring, ActsAt};
 
 use crate::begins::FetchUpdateCall;
@@ -275,6 +275,7 @@ impl<T: AtomicInteger, A: Allocator> Atomic<T, A> {
         requires right { (old : T) → T.arithmetic.same old by.now.current ≡ false → value_after T.arithmetic (plain L.call) old ≡ old }
         requires other { ActsAtOther T.arithmetic L.call by.now.current }
         requires acts { act_in T.arithmetic by.now.act ≡ plain L.call }
+        requires written { IsWritten T.arithmetic (plain L.call) }
         ensures same_borrow { result.1.pass.ghost_name ≡ turn.entry.pass.ghost_name }
         ensures compared { MatchBool (T.arithmetic.same result.0 by.now.current) (HasTaken T.arithmetic result.0 turn.entry.pass.now result.1.pass.now) (HasCompared T.arithmetic (key_of self.now.stage) by.now.act result.0 turn.entry.pass.now result.1.pass.now) }
         ensures knows { (done : List (Slot T)) → IsNext T.arithmetic (key_of self.now.stage) L.call (inside T.arithmetic L.call) (Some kinds.Write) done (parties_of turn.entry.pass.now) → Knows T.arithmetic (key_of self.now.stage) L.call result.0 done (parties_of result.1.pass.now) }
@@ -296,6 +297,7 @@ impl<T: AtomicInteger, A: Allocator> Atomic<T, A> {
         requires on { IsSettled (counts_of turn.pass.now).hold }
         requires right { IfWriting (counts_of turn.pass.now).hold (λ _ found. value_after T.arithmetic (act_in T.arithmetic act.now) (value_of T.arithmetic found) ≡ new) }
         requires stores { IsStoring act.now }
+        requires written { IsWritten T.arithmetic (act_in T.arithmetic act.now) }
         requires may { MayPut T.arithmetic (key_of self.now.stage) W.coming (act_in T.arithmetic act.now).call new (parties_of turn.pass.now) }
         ensures same_borrow { result.pass.ghost_name ≡ turn.entry.pass.ghost_name }
         ensures same { IsSamePass turn.entry.pass.now result.pass.now }
@@ -325,6 +327,7 @@ impl<T: AtomicInteger, A: Allocator> Atomic<T, A> {
         requires knows { (done : List (Slot T)) × Knows T.arithmetic (key_of self.now.stage) call.now old done (parties_of turn.pass.now) }
         requires puts { Puts T.arithmetic call.now old new (answer_to T.arithmetic (plain call.now) old) }
         requires acts { act_in T.arithmetic act.now ≡ plain call.now }
+        requires written { IsWritten T.arithmetic (plain call.now) }
         ensures same_borrow { result.pass.ghost_name ≡ turn.entry.pass.ghost_name }
         ensures acted { HasActedAt T.arithmetic (key_of self.now.stage) (plain call.now) (answer_to T.arithmetic (plain call.now) old) turn.entry.pass.now result.pass.now }
         ensures rest { (counts_of result.pass.now).hold ≡ Free }

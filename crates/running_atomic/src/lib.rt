@@ -8,7 +8,7 @@
 mod acts;
 mod begins;
 mod calls;
-mod deeds;
+mod counted;
 mod ends;
 mod history;
 mod locking;

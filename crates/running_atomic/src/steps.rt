@@ -8,18 +8,14 @@ ghost use Rattle.running_model.specs.Stages.{IsPassOf, key_of};
 ghost use Rattle.running_atomic.specs.AtomicModel.{atomic_model, atomic_names};
 ghost use Rattle.running_atomic.specs.AtomicParties.{Writes, IsAtHigh, IsAtLook, ComesAgain, IsAtPutHigh};
 ghost use Rattle.running_atomic.specs.declared.history.AtomicAct.TheVariants as act;
-ghost use Rattle.running_atomic.specs.AtomicRule.{act_in};
+ghost use Rattle.running_atomic.specs.AtomicRule.{act_in, IsWritten};
 ghost use Rattle.model_events.specs.declared.event.Call.TheVariants as calls;
 ghost use Rattle.model_events.specs.Moves.{CallValues};
 ghost use Rattle.running_passes.specs.Views.{looked};
 ghost use Rattle.running_atomic.specs.AtomicSteps.{EntersRead, EntersWrite, Leaves, ReadsLow, ReadsHigh, EndsLoad, EndsStore, EndsUnchanged, StoresLow, Settles, IsReading, IsSettled, IsWriting, IsOn, IsRight, KeepsOthers, ComparesHigh, IsComparing, IsStoring};
 
-use crate::begins::LoadCall;
+use crate::begins::{Acts, Compares, LoadCall};
 use crate::calls::Atomic;
-use crate::deeds::{
-    Acts, CompareHigh, Compares, EndLoad, EndStore, EndUnchanged, EnterRead, EnterWrite, Leave,
-    Look, ReadHigh, ReadLow, Settle, StoreLow,
-};
 use crate::history::AtomicAct;
 use crate::script::PlayedAtomic;
 use model_events::atomic::internal::AtomicInteger;
@@ -69,7 +65,7 @@ impl<T: AtomicInteger, A: Allocator> Atomic<T, A> {
         ensures went { Went (atomic_model T.arithmetic (key_of self.now.stage)) W.coming (parties_of turn.entry.pass.now) result.0 (parties_of result.1.pass.now) }
         ensures saw { counted result.1.pass.now ≡ looked (counted turn.entry.pass.now) result.0 }
     {
-        turn.load_by::<T, A, Look>(&self.stage, STATE)
+        turn.load(&self.stage, STATE)
     }
 
     /// The load with which a `load` begins.
@@ -103,7 +99,7 @@ impl<T: AtomicInteger, A: Allocator> Atomic<T, A> {
         ensures went { Went (atomic_model T.arithmetic (key_of self.now.stage)) Going (parties_of turn.entry.pass.now) result.0 (parties_of result.1.pass.now) }
         ensures tried { EntersRead from (counted turn.entry.pass.now) result.0 (counted result.1.pass.now) }
     {
-        turn.exchange_by::<T, A, EnterRead>(&self.stage, STATE, from, to)
+        turn.exchange(&self.stage, STATE, from, to)
     }
 
     /// An exchange of the lock's word, from 0, for the writer's.
@@ -120,7 +116,7 @@ impl<T: AtomicInteger, A: Allocator> Atomic<T, A> {
         ensures went { Went (atomic_model T.arithmetic (key_of self.now.stage)) W.coming (parties_of turn.entry.pass.now) result.0 (parties_of result.1.pass.now) }
         ensures tried { EntersWrite (counted turn.entry.pass.now) result.0 (counted result.1.pass.now) }
     {
-        turn.exchange_by::<T, A, EnterWrite>(&self.stage, STATE, 0, WRITTEN)
+        turn.exchange(&self.stage, STATE, 0, WRITTEN)
     }
 
     /// The one with which another call begins, which its caller picks.
@@ -154,7 +150,7 @@ impl<T: AtomicInteger, A: Allocator> Atomic<T, A> {
         ensures went { (found : ℕ) × Went (atomic_model T.arithmetic (key_of self.now.stage)) Going (parties_of turn.entry.pass.now) found (parties_of result.pass.now) }
         ensures left { Leaves (counted turn.entry.pass.now) (counted result.pass.now) }
     {
-        let (_, next) = turn.subtract_by::<T, A, Leave>(&self.stage, STATE, 1);
+        let (_, next) = turn.subtract(&self.stage, STATE, 1);
         next
     }
 
@@ -169,7 +165,7 @@ impl<T: AtomicInteger, A: Allocator> Atomic<T, A> {
         ensures went { Went (atomic_model T.arithmetic (key_of self.now.stage)) Going (parties_of turn.entry.pass.now) 0 (parties_of result.pass.now) }
         ensures left { Leaves (counted turn.entry.pass.now) (counted result.pass.now) }
     {
-        turn.store_by::<T, A, Leave>(&self.stage, STATE, 0)
+        turn.store(&self.stage, STATE, 0)
     }
 
     /// A load of the low word.
@@ -183,7 +179,7 @@ impl<T: AtomicInteger, A: Allocator> Atomic<T, A> {
         ensures went { Went (atomic_model T.arithmetic (key_of self.now.stage)) Going (parties_of turn.entry.pass.now) result.0 (parties_of result.1.pass.now) }
         ensures read { ReadsLow (counted turn.entry.pass.now) result.0 (counted result.1.pass.now) }
     {
-        turn.load_by::<T, A, ReadLow>(&self.stage, LOW)
+        turn.load(&self.stage, LOW)
     }
 
     /// A load of the high word, after which the call goes on.
@@ -198,7 +194,7 @@ impl<T: AtomicInteger, A: Allocator> Atomic<T, A> {
         ensures went { Went (atomic_model T.arithmetic (key_of self.now.stage)) Going (parties_of turn.entry.pass.now) result.0 (parties_of result.1.pass.now) }
         ensures read { ReadsHigh (counted turn.entry.pass.now) result.0 (counted result.1.pass.now) }
     {
-        turn.load_by::<T, A, ReadHigh>(&self.stage, HIGH)
+        turn.load(&self.stage, HIGH)
     }
 
     /// The load of the high word by which a `load` acts.
@@ -213,7 +209,7 @@ impl<T: AtomicInteger, A: Allocator> Atomic<T, A> {
         ensures went { Went (atomic_model T.arithmetic (key_of self.now.stage)) Going (parties_of turn.entry.pass.now) result.0 (parties_of result.1.pass.now) }
         ensures ended { EndsLoad T.arithmetic (key_of self.now.stage) (counted turn.entry.pass.now) result.0 (counted result.1.pass.now) }
     {
-        turn.load_by::<T, A, EndLoad>(&self.stage, HIGH)
+        turn.load(&self.stage, HIGH)
     }
 
     /// The store of the low word.
@@ -231,7 +227,7 @@ impl<T: AtomicInteger, A: Allocator> Atomic<T, A> {
         ensures went { Went (atomic_model T.arithmetic (key_of self.now.stage)) W.coming (parties_of turn.entry.pass.now) new (parties_of result.pass.now) }
         ensures stored { StoresLow (counted turn.entry.pass.now) new (counted result.pass.now) }
     {
-        turn.store_by::<T, A, StoreLow>(&self.stage, LOW, new)
+        turn.store(&self.stage, LOW, new)
     }
 
     /// The store of the high word, by which a call acts that stores: this act, which its caller picks.
@@ -247,13 +243,14 @@ impl<T: AtomicInteger, A: Allocator> Atomic<T, A> {
         requires right { IsRight T.arithmetic L.act new (counts_of turn.pass.now).hold }
         requires may { MayStep (atomic_model T.arithmetic (key_of self.now.stage)) atomic_names Going 2 (λ w. intents.Store w new) (parties_of turn.pass.now) }
         requires stores { IsStoring L.act }
+        requires written { IsWritten T.arithmetic (act_in T.arithmetic L.act) }
         requires puts { IsAtPutHigh T.arithmetic (key_of self.now.stage) (act_in T.arithmetic L.act).call new (parties_of turn.pass.now) }
         ensures same_borrow { result.pass.ghost_name ≡ turn.entry.pass.ghost_name }
         ensures same { IsSamePass turn.entry.pass.now result.pass.now }
         ensures went { Went (atomic_model T.arithmetic (key_of self.now.stage)) Going (parties_of turn.entry.pass.now) new (parties_of result.pass.now) }
         ensures ended { EndsStore T.arithmetic (key_of self.now.stage) L.act (counted turn.entry.pass.now) new (counted result.pass.now) }
     {
-        turn.store_by::<T, A, EndStore<L>>(&self.stage, HIGH, new)
+        turn.store(&self.stage, HIGH, new)
     }
 
     /// The load of the high word by which a `fetch_update` acts whose closure has chosen nothing.
@@ -271,7 +268,7 @@ impl<T: AtomicInteger, A: Allocator> Atomic<T, A> {
         ensures went { (found : ℕ) × Went (atomic_model T.arithmetic (key_of self.now.stage)) (Choosing None) (parties_of turn.entry.pass.now) found (parties_of result.pass.now) }
         ensures ended { EndsUnchanged T.arithmetic (key_of self.now.stage) (act.FetchUpdate None) (counted turn.entry.pass.now) (counted result.pass.now) }
     {
-        let (_, next) = turn.load_by::<T, A, EndUnchanged>(&self.stage, HIGH);
+        let (_, next) = turn.load(&self.stage, HIGH);
         next
     }
 
@@ -286,13 +283,14 @@ impl<T: AtomicInteger, A: Allocator> Atomic<T, A> {
         requires on { IsSettled (counts_of turn.pass.now).hold }
         requires right { KeepsOthers T.arithmetic L.act (L.current T.arithmetic) (counts_of turn.pass.now).hold }
         requires may { MayStep (atomic_model T.arithmetic (key_of self.now.stage)) atomic_names Going 2 (λ w. intents.Load w) (parties_of turn.pass.now) }
+        requires written { IsWritten T.arithmetic (act_in T.arithmetic L.act) }
         requires compares { IsComparing T.arithmetic (key_of self.now.stage) L.act (L.current T.arithmetic) (counts_of turn.pass.now).hold (parties_of turn.pass.now) }
         ensures same_borrow { result.1.pass.ghost_name ≡ turn.entry.pass.ghost_name }
         ensures same { IsSamePass turn.entry.pass.now result.1.pass.now }
         ensures went { Went (atomic_model T.arithmetic (key_of self.now.stage)) Going (parties_of turn.entry.pass.now) result.0 (parties_of result.1.pass.now) }
         ensures compared { ComparesHigh T.arithmetic (key_of self.now.stage) L.act (L.current T.arithmetic) (counted turn.entry.pass.now) result.0 (counted result.1.pass.now) }
     {
-        turn.load_by::<T, A, CompareHigh<L>>(&self.stage, HIGH)
+        turn.load(&self.stage, HIGH)
     }
 
     /// A load by which a pass sees all of the history.
@@ -303,6 +301,6 @@ impl<T: AtomicInteger, A: Allocator> Atomic<T, A> {
         ensures stayed { parties_of pass.new ≡ parties_of pass.old }
         ensures settled { Settles T.arithmetic (key_of self.now.stage) (counted pass.old) (counted pass.new) }
     {
-        self.stage.look::<Settle>(pass, STATE);
+        self.stage.learn(pass, STATE);
     }
 }

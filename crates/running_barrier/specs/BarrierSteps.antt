@@ -1,5 +1,5 @@
 -- What holds whenever the rule of a barrier does, and what a step changes in a pass.
-use Rattle.running_barrier.specs.Names.{◌≡◌, ◌≢◌, ℕ, ◌+◌, ◌%◌, ◌^◌, ◌<◌, ◌≤◌, [], ◌∷◌, sum, Word, BarrierPlace, epoch_of, count_of, barrier_model, View, IsWhole, total, stale, view_of, looked, missed, sum_of, IsCounted, Played, none_played, both_played, PlaysAndCounts, IsOfARun, Rounds, BarrierScript, one_more, in_round, rounds, no_rounds, both_rounds, word_of, BarrierAgrees, AreArrivalsIn}
+use Rattle.running_barrier.specs.Names.{◌≡◌, ◌≢◌, ℕ, ◌+◌, ◌%◌, ◌^◌, ◌<◌, ◌≤◌, [], ◌∷◌, sum, Word, BarrierPlace, epoch_of, count_of, barrier_model, View, IsWhole, total, stale, view_of, looked, missed, sum_of, IsCounted, Played, none_played, both_played, PlaysAndCounts, IsOfARun, Rounds, BarrierScript, one_more, in_round, no_rounds, both_rounds, reaching, word_of, AreRoundsIn}
 use mathlib.Core.Option.{some}
 use lib.ListN.{get_elem?}
 use Rattle.atomic_table.specs.Table.{State}
@@ -10,11 +10,11 @@ BarrierView = View (Played BarrierScript BarrierPlace ℕ Rounds)
 
 -- the rule of a barrier for n holds
 abbrev pub IsRuled : ℕ → State (Unit {0}) BarrierView → Type 0
-IsRuled n s = IsCounted (none_played no_rounds) (both_played both_rounds) (PlaysAndCounts (barrier_model n) (Word.State ∷ []) (BarrierAgrees n) AreArrivalsIn) s
+IsRuled n s = IsCounted (none_played no_rounds) (both_played both_rounds) (PlaysAndCounts (barrier_model n) (Word.State ∷ []) (λ _ _ _. Unit {0}) (AreRoundsIn n)) s
 
--- whenever it does, all passes are the parties of a run, and arrived as often as calls did in it
+-- whenever it does, all passes are the parties of a run, and arrived in each round as often as calls did in it
 abbrev pub ArrivalsAreOfARun : Type 0
-ArrivalsAreOfARun = (n : ℕ) (s : State (Unit {0}) BarrierView) → IsRuled n s → IsOfARun (barrier_model n) AreArrivalsIn (sum_of (none_played no_rounds) (both_played both_rounds) s.views)
+ArrivalsAreOfARun = (n : ℕ) (s : State (Unit {0}) BarrierView) → IsRuled n s → IsOfARun (barrier_model n) (AreRoundsIn n) (sum_of (none_played no_rounds) (both_played both_rounds) s.views)
 
 -- and a round that a pass knows to be open has n arrivals of all passes
 abbrev pub OpenRoundsAreFull : Type 0
@@ -23,7 +23,7 @@ OpenRoundsAreFull = (n : ℕ) (s : State (Unit {0}) BarrierView) → IsRuled n s
 
 -- so many rounds are known to be open
 abbrev pub reaches : ℕ → View Rounds → View Rounds
-reaches round v = view_of v.part v.sights (rounds v.tally.arrivals round v.tally.opened)
+reaches round v = view_of v.part v.sights (reaching round v.tally)
 
 -- What the word says, if it is this while so many rounds are open. Where no other pass is left, it is what this one did.
 pub record Says (n : ℕ) (v : View Rounds) (found round : ℕ) : Type 0 where

@@ -17,7 +17,7 @@ use model_barrier::{BarrierPlace, arrived, count_of, epoch_of};
 use model_events::SPIN_REPETITIONS;
 use running_model::turn::{Called, Goes, Turn, Way, begin_new};
 use running_model::{Sealed, Stage};
-use running_passes::{Deed, Origin, Pass};
+use running_passes::{Origin, Pass};
 use running_tallies::{BarrierScript, PlayedBarrier, Rounds, WaitWord};
 use std::alloc::{AllocError, Allocator, Global};
 use std::hint::spin_loop;
@@ -53,26 +53,6 @@ pub type BarrierPass = Pass<PlayedBarrier>;
 /// No more can arrive: the barrier was made for 0.
 #[derive(Clone, Copy, Debug, PartialEq, Eq)]
 pub struct BarrierFull;
-
-/// A load.
-struct Look;
-
-impl Deed<u32, Rounds> for Look {
-    ghost use Rattle.std.specs.Prelude.{◌%◌, ◌^◌};
-    ghost use Rattle.running_barrier.specs.BarrierSteps.{Loaded};
-
-    ghost tells = { λ key _ _. Loaded (key % 2 ^ 32) };
-}
-
-/// An exchange of the value seen for the one after an arrival.
-struct Arrive;
-
-impl Deed<u32, Rounds> for Arrive {
-    ghost use Rattle.std.specs.Prelude.{◌%◌, ◌^◌};
-    ghost use Rattle.running_barrier.specs.BarrierSteps.{Exchanged};
-
-    ghost tells = { λ key from _. Exchanged (key % 2 ^ 32) from };
-}
 
 /// A `Wait`.
 struct WaitCall;
@@ -325,7 +305,7 @@ impl<A: Allocator> Barrier<A> {
         ensures told { Loaded (waiters_of self.now) (counted turn.entry.pass.now) result.0 (counted result.1.pass.now) }
         ensures went { Went (barrier_model (waiters_of self.now)) W.coming (parties_of turn.entry.pass.now) result.0 (parties_of result.1.pass.now) }
     {
-        turn.load_by::<u32, A, Look>(&self.stage, 0)
+        turn.load(&self.stage, 0)
     }
 
     /// The load with which a `Wait` begins.
@@ -358,7 +338,7 @@ impl<A: Allocator> Barrier<A> {
         ensures joined { result.0 ≡ seen → OnceLooked (waiters_of self.now) seen (parties_of turn.entry.pass.now) (λ done. HasJoined (waiters_of self.now) seen done (parties_of result.1.pass.now)) }
         ensures again { result.0 ≢ seen → OnceLooked (waiters_of self.now) seen (parties_of turn.entry.pass.now) (λ done. HasLooked (waiters_of self.now) result.0 done (parties_of result.1.pass.now)) }
     {
-        turn.exchange_by::<u32, A, Arrive>(&self.stage, 0, seen, next)
+        turn.exchange(&self.stage, 0, seen, next)
     }
 
     /// The barrier's word, as closures see it.

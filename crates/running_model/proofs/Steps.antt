@@ -1,11 +1,11 @@
 -- What is known of one step.
-use Rattle.running_model.specs.Names.{◌≡◌, ℕ, List, ◌∷◌, Option, Some, true, MatchBool, MatchOption, Word, Call, Act, Intent, Then, Event, PendingCall, Sights, View, call_of, is_step, carried_out, value_told, view_of, wrote, seen_instead}
+use Rattle.running_model.specs.Names.{◌≡◌, ℕ, List, ◌∷◌, Option, Some, true, MatchBool, MatchOption, Word, Call, Act, Intent, HoldKind, Then, Event, PendingCall, Sights, View, call_of, is_step, carried_out, value_told, view_of, wrote, seen_instead}
 use Rattle.running_model.proofs.Names.{◌≢◌, ◌==◌, Bool, false, refl, subst, sym, ap, ◌∙◌, some_same, eqb_same}
 use Rattle.std.proofs.lemmas.Bool.{eqb-true, eqb-false, ne_eqb}
 use Rattle.model_events.specs.NextStep.{StepsAs}
 use Rattle.running_model.specs.Models.{Model}
-use Rattle.running_model.specs.Slots.{Parties}
-use Rattle.running_model.specs.Plays.{Coming, MayStep, act_at}
+use Rattle.running_model.specs.Slots.{Slot, Parties}
+use Rattle.running_model.specs.Plays.{Coming, ComesBy, MayStep, act_at}
 use Rattle.running_model.specs.Passes.{Told}
 use Rattle.running_model.specs.Sees.{sights_after}
 
@@ -28,9 +28,9 @@ module _ {V P : Type 0} (m : Model V P) (names : List Word) (coming : Coming V) 
 
   -- what it found is what the word held
   pub found_there : ((w : Word) (memory : Word → ℕ) → value_told (carried_out (intent w) memory) ≡ Some (memory w)) → (memory : Word → ℕ) →
-      act_at m may.place may.hold found ≡ carried_out (m.table.intent may.place may.hold) memory → found ≡ memory name
+      ((call : Call V) (place : P) (hold : Option HoldKind) (done : List (Slot V)) → ComesBy m coming call place hold done p → act_at m place hold found ≡ carried_out (m.table.intent place hold) memory) → found ≡ memory name
   found_there tells memory so =
-      some_same _ _ (sym (tells may.name (λ _. found)) ∙ ap value_told (subst (λ (k : Intent V). carried_out k (λ _. found) ≡ carried_out k memory) may.intends so) ∙ tells may.name memory)
+      some_same _ _ (sym (tells may.name (λ _. found)) ∙ ap value_told (subst (λ (k : Intent V). carried_out k (λ _. found) ≡ carried_out k memory) may.intends (so may.call may.place may.hold may.done may.comes)) ∙ tells may.name memory)
       ∙ sym (ap memory named)
 
 -- of an exchange, where it is done and where it failed

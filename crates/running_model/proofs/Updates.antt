@@ -8,8 +8,8 @@ use Rattle.running_model.specs.declared.played.Played.{Played}
 use Rattle.running_model.specs.Slots.{Slot, Free, Mine, Torn, both, all, slot_at, only, all_of, Parties, no_parties, both_parties}
 use Rattle.running_model.specs.SlotLaws.{no_parties_add, slot_of_all}
 use Rattle.running_model.specs.Words.{AllHold, AreApart, IsStepOn, IsOnNoWord, effect}
-use Rattle.running_model.specs.Plays.{fresh_call, Coming, IsPlayed, act_at, Leads, Led, IsStepAt, MayStep, StoodAlone, Went, HasStepped, WentBy, StoodBeside, WentBeside, WentAlone, events_of}
-use Rattle.running_model.specs.Passes.{played, none_played, both_played, counted_in, PlaysAndCounts, GoesOnCounting, StaysCounting, HasNeeds, GoesOnByActs, StaysOnNoWord, Stepped, SteppedByAct, Looked}
+use Rattle.running_model.specs.Plays.{fresh_call, Coming, IsPlayed, act_at, Leads, Led, IsStepAt, MayStep, Went, HasStepped, WentBy, ComesBy, events_of}
+use Rattle.running_model.specs.Passes.{played, none_played, both_played, counted_in, PlaysAndCounts, HasNeeds, GoesOnByActs, StaysOnNoWord, SameOnNoWord, SteppedByAct, Learned}
 use Rattle.running_model.proofs.Words.{hold_at, carried_here}
 use Rattle.running_model.proofs.Same.{same_coming}
 use Rattle.running_model.proofs.Ready.{AllMatch, ready, still, came, step_event, steps}
@@ -31,7 +31,7 @@ set_as_it_was (x ∷ xs) (suc i) = ap (λ (ys : List ℕ). x ∷ ys) (set_as_it_
 module _ {V P : Type 0} (m : Model V P) (names : List Word) where
   -- The step, by what it does: what it leaves in the word, and what it tells of it. What was known of the run before it, and what acts on no
   -- word leave as it is, is known right before its event.
-  pub record Makes (coming : Coming V) (found : List ℕ) (p rest : Parties V) (i y told : ℕ) (intent : Intent V) (call : Call V) (place : P) (hold : Option HoldKind) (Says : List (Event V) → Type 0) : Type 0 where
+  pub record Makes (before : List (Event V)) (coming : Coming V) (found : List ℕ) (p rest : Parties V) (i y told : ℕ) (intent : Intent V) (call : Call V) (place : P) (hold : Option HoldKind) (Says : List (Event V) → Type 0) : Type 0 where
     pub after : Parties V
     pub past : List (Event V)
     pub latest : Event V
@@ -46,19 +46,18 @@ module _ {V P : Type 0} (m : Model V P) (names : List Word) where
     pub each : AllMatch (all_of (both_parties after rest)) (latest ∷ past)
     pub went : Went m coming p told after
     pub by : WentBy m coming p told after
-    pub beside : WentBeside m Says coming p told
-    pub alone : rest ≡ no_parties → WentAlone m Says coming p told
+    pub found_is : act_at m place hold told ≡ carried_out (m.table.intent place hold) (word_in m.table before)
 
   -- and so the words stand at the run that is longer by the step's event
-  abbrev pub made_run : (coming : Coming V) (found : List ℕ) (p rest : Parties V) (i y told : ℕ) (intent : Intent V) (call : Call V) (place : P) (hold : Option HoldKind) (Says : List (Event V) → Type 0) →
-      (a : Makes coming found p rest i y told intent call place hold Says) → IsPlayed m names (set found i y) (both_parties a.after rest)
-  made_run coming found p rest i y told intent call place hold Says a = record { parties = a.parties; past = a.latest ∷ a.past; run = a.run; law = a.law; hold = a.hold_now; each = a.each }
+  abbrev pub made_run : (before : List (Event V)) (coming : Coming V) (found : List ℕ) (p rest : Parties V) (i y told : ℕ) (intent : Intent V) (call : Call V) (place : P) (hold : Option HoldKind) (Says : List (Event V) → Type 0) →
+      (a : Makes before coming found p rest i y told intent call place hold Says) → IsPlayed m names (set found i y) (both_parties a.after rest)
+  made_run _ _ _ _ _ _ _ _ _ _ _ _ _ a = record { parties = a.parties; past = a.latest ∷ a.past; run = a.run; law = a.law; hold = a.hold_now; each = a.each }
 
   pub makes :
       ((n : ℕ) (past : List (Event V)) → IsPast m.arithmetic m.table n past → m.law past) → AreApart names → (coming : Coming V) (found : List ℕ) (p rest : Parties V) (i y told : ℕ) (intent : Word → Intent V) →
       (may : MayStep m names coming i intent p) → ((w : Word) → effect (intent w) (get_or found i 0) ≡ y) → ((w : Word) → carried_out (intent w) (λ _. get_or found i 0) ≡ carried_out (intent w) (λ _. told)) →
       (r : IsPlayed m names found (both_parties p rest)) (Says : List (Event V) → Type 0) → ((past : List (Event V)) (e : Event V) → IsOnNoWord e.act → Says past → Says (e ∷ past)) → Says r.past →
-      Makes coming found p rest i y told (intent may.name) may.call may.place may.hold Says
+      Makes r.past coming found p rest i y told (intent may.name) may.call may.place may.hold Says
   makes lawful apart coming found p rest i y told intent may leaves tells r Says quiet says =
       let x : ℕ = get_or found i 0 in
       let on : IsStepOn may.name (m.table.intent may.place may.hold) = subst (IsStepOn may.name) (sym may.intends) may.on in
@@ -123,102 +122,77 @@ module _ {V P : Type 0} (m : Model V P) (names : List Word) where
               free = free_first (slot_at before.party may.done) (slot_at before.party (all_of rest)) (sym (slot_of_all before.party may.done (all_of rest)) ∙ before.apart.free);
               now = made.now ∙ ap (λ (o : List (Event V)). all (only before.party (Mine o)) may.done) (rw (eqb_same before.party) refl);
             }))));
-        beside = λ call place hold done comes.
-            let here = same_coming m coming may.call call may.place place may.hold hold may.done done p may.comes comes in
-            subst (λ s. StoodBeside m Says s hold told p) here.same_place
-            (subst (λ h. StoodBeside m Says may.place h told p) here.same_hold
-            (record { parties = r.parties; past = r.past; run = r.run; law = r.law; says = says; others = rest; each = r.each; found_is = act_in r.past r.hold }));
-        alone = λ none call place hold done comes.
-            let here = same_coming m coming may.call call may.place place may.hold hold may.done done p may.comes comes in
-            let nobody : both_parties p rest ≡ p = ap (both_parties p) none ∙ no_parties_add p in
-            subst (λ s. StoodAlone m Says s hold told p) here.same_place
-            (subst (λ h. StoodAlone m Says may.place h told p) here.same_hold
-            (record {
-              parties = r.parties;
-              past = r.past;
-              run = r.run;
-              law = r.law;
-              says = says;
-              each = subst (λ (u : Parties V). AllMatch (all_of u) r.past) nobody r.each;
-              found_is = act_in r.past r.hold;
-            }));
+        found_is = act_in r.past r.hold;
       }
+
+  -- by whichever place it came
+  pub found_so : (coming : Coming V) (p : Parties V) (i told : ℕ) (intent : Word → Intent V) (may : MayStep m names coming i intent p) (before : List (Event V)) → act_at m may.place may.hold told ≡ carried_out (m.table.intent may.place may.hold) (word_in m.table before) →
+      (call : Call V) (place : P) (hold : Option HoldKind) (done : List (Slot V)) → ComesBy m coming call place hold done p → act_at m place hold told ≡ carried_out (m.table.intent place hold) (word_in m.table before)
+  found_so coming p i told intent may before is call place hold done comes =
+      let here = same_coming m coming may.call call may.place place may.hold hold may.done done p may.comes comes in
+      subst (λ s. act_at m s hold told ≡ carried_out (m.table.intent s hold) (word_in m.table before)) here.same_place
+      (subst (λ h. act_at m may.place h told ≡ carried_out (m.table.intent may.place h) (word_in m.table before)) here.same_hold is)
 
   -- beside it the pass counts as it may
   module _ {M Q C : Type 0} (none : C) (add : C → C → C) (unit : (c : C) → add c none ≡ c) (agree : List ℕ → List (maybe.Option (Unit {0})) → C → Type 0) (follow : List (Event V) → C → Type 0) where
-    pub updates :
-        ((n : ℕ) (past : List (Event V)) → IsPast m.arithmetic m.table n past → m.law past) → AreApart names → StaysOnNoWord follow → (coming : Coming V) (v : View (Played M Q V C)) (i : ℕ) (intent : Word → Intent V) (f shows : ℕ → ℕ)
-        (tells : View C → ℕ → View C → Type 0) → MayStep m names coming i intent v.tally.parties → ((w : Word) (n : ℕ) → effect (intent w) n ≡ f n) →
-        ((w : Word) (n : ℕ) → carried_out (intent w) (λ _. n) ≡ carried_out (intent w) (λ _. shows n)) →
-        Updates none add agree (counted_in v) i f (λ found. tells (counted_in v) (shows found)) → GoesOnCounting m names add agree follow coming i intent v.tally.parties v.tally.counts (tells (counted_in v)) →
-        Updates (none_played none) (both_played add) (PlaysAndCounts m names agree follow) v i f (λ found. Stepped m follow coming tells v (shows found))
-    updates lawful apart quiet coming v i intent f shows tells may leaves so counts goes = record {
-      may = λ found homes rest r alone fits.
-          let x : ℕ = get_or found i 0 in
-          let Says : List (Event V) → Type 0 = λ past. follow past (add v.tally.counts rest.counts) in
-          let a = makes lawful apart coming found v.tally.parties rest.parties i (f x) (shows x) intent may (λ w. leaves w x) (λ w. so w x) r.played Says (λ past e silent is. quiet past e (add v.tally.counts rest.counts) silent is) r.follows in
-          let b = counts.may found homes rest.counts r.agrees (λ whole. ap (λ (u : Played M Q V C). u.counts) (alone whole)) fits in (
-            view_of b.0.part b.0.sights (played a.after b.0.tally),
-            b.1,
-            record {
-              played = made_run _ _ _ _ _ _ _ _ _ _ _ _ a;
-              agrees = b.2;
-              follows = goes may.call may.place may.hold may.done may.comes a.past a.latest (shows x) a.step may.name may.named a.act_is rest.counts b.0 b.3 (record { words = found; homes = homes; hold = a.words; agreed = r.agrees; made = set found i (f x); agrees = b.2 }) a.says;
-            },
-            record {
-              went = a.went;
-              alone = λ whole.
-                  let none_is : add v.tally.counts rest.counts ≡ v.tally.counts = ap (λ (u : Played M Q V C). add v.tally.counts u.counts) (alone whole) ∙ unit v.tally.counts in
-                  subst (λ (c : C). WentAlone m (λ past. follow past c) coming v.tally.parties (shows x)) none_is (a.alone (ap (λ (u : Played M Q V C). u.parties) (alone whole)));
-              told = b.3;
-            },
-          );
-    }
+    -- where there are no others, the run says so of what the pass counts
+    says_alone : (v : View (Played M Q V C)) (rest : Played M Q V C) → rest ≡ none_played none → (past : List (Event V)) → follow past (add v.tally.counts rest.counts) → follow past v.tally.counts
+    says_alone v rest blank past says = subst (follow past) (ap (λ (u : Played M Q V C). add v.tally.counts u.counts) blank ∙ unit v.tally.counts) says
 
-    -- or what its act does, where the words are asked for nothing
+    -- what its act does
     pub updates_by_act :
-        ((n : ℕ) (past : List (Event V)) → IsPast m.arithmetic m.table n past → m.law past) → AreApart names → StaysOnNoWord follow → ((found : List ℕ) (homes : List (maybe.Option (Unit {0}))) (c : C) → agree found homes c) →
-        (sees : Act V → Sights → Sights) (after : Act V → Call V → C → C) (needs : Act V → C → Type 0) → GoesOnByActs m add follow after needs → (coming : Coming V) (v : View (Played M Q V C)) (i : ℕ) (intent : Word → Intent V) (f shows : ℕ → ℕ) →
+        ((n : ℕ) (past : List (Event V)) → IsPast m.arithmetic m.table n past → m.law past) → AreApart names → StaysOnNoWord follow → ((past : List (Event V)) (found : List ℕ) (homes : List (maybe.Option (Unit {0}))) (c : C) → follow past c → agree found homes c) →
+        (sees : Act V → Sights → Sights) (after : List (Event V) → P → Act V → Call V → C → C) (needs : Act V → C → Type 0) → SameOnNoWord after → GoesOnByActs m add follow after needs → (coming : Coming V) (v : View (Played M Q V C)) (i : ℕ) (intent : Word → Intent V) (f shows : ℕ → ℕ) →
         MayStep m names coming i intent v.tally.parties → HasNeeds names i needs intent v.tally.counts →
         ((w : Word) (n : ℕ) → effect (intent w) n ≡ f n) → ((w : Word) (n : ℕ) → carried_out (intent w) (λ _. n) ≡ carried_out (intent w) (λ _. shows n)) →
         Updates (none_played none) (both_played add) (PlaysAndCounts m names agree follow) v i f (λ found. SteppedByAct m add follow sees after coming v (shows found))
-    updates_by_act lawful apart quiet free sees after needs goes coming v i intent f shows may has leaves so = record {
+    updates_by_act lawful apart quiet free sees after needs same goes coming v i intent f shows may has leaves so = record {
       may = λ found homes rest r alone fits.
           let x : ℕ = get_or found i 0 in
-          let Says : List (Event V) → Type 0 = λ past. follow past (add v.tally.counts rest.counts) in
-          let a = makes lawful apart coming found v.tally.parties rest.parties i (f x) (shows x) intent may (λ w. leaves w x) (λ w. so w x) r.played Says (λ past e silent is. quiet past e (add v.tally.counts rest.counts) silent is) r.follows in
-          let act : Act V = act_at m may.place may.hold (shows x) in (
-            view_of v.part (sees act v.sights) (played a.after (after act may.call v.tally.counts)),
+          let act : Act V = act_at m may.place may.hold (shows x) in
+          let counts : C = after r.played.past may.place act may.call v.tally.counts in
+          let Says : List (Event V) → Type 0 = λ past. follow past (add v.tally.counts rest.counts) × (after past may.place act may.call v.tally.counts ≡ counts) in
+          let a = makes lawful apart coming found v.tally.parties rest.parties i (f x) (shows x) intent may (λ w. leaves w x) (λ w. so w x) r.played Says
+          (λ past e silent is. (quiet past e (add v.tally.counts rest.counts) silent is.0, same past e may.place act may.call v.tally.counts silent ∙ is.1)) (r.follows, refl) in
+          let follows : follow (a.latest ∷ a.past) (add counts rest.counts) = subst (λ (c : C). follow (a.latest ∷ a.past) (add c rest.counts)) (ap (λ (act : Act V). after a.past may.place act may.call v.tally.counts) a.step.act ∙ a.says.1)
+          (goes may.call may.place may.hold a.past a.latest (shows x) a.step v.tally.counts rest.counts (subst (λ (act : Act V). needs act v.tally.counts) (sym a.act_is) (has may.name (shows x) may.named)) a.says.0) in (
+            view_of v.part (sees act v.sights) (played a.after counts),
             refl,
-            record {
-              played = made_run _ _ _ _ _ _ _ _ _ _ _ _ a;
-              agrees = free _ _ _;
-              follows = subst (λ (act : Act V). follow (a.latest ∷ a.past) (add (after act may.call v.tally.counts) rest.counts)) a.step.act
-                  (goes may.call may.place may.hold a.past a.latest (shows x) a.step v.tally.counts rest.counts (subst (λ (act : Act V). needs act v.tally.counts) (sym a.act_is) (has may.name (shows x) may.named)) a.says);
-            },
+            record { played = made_run _ _ _ _ _ _ _ _ _ _ _ _ _ a; agrees = free _ _ _ _ follows; follows = follows },
             record {
               went = a.went;
               by = a.by;
-              beside = record { rest = rest.counts; beside = a.beside };
-              alone = λ whole.
-                  let none_is : add v.tally.counts rest.counts ≡ v.tally.counts = ap (λ (u : Played M Q V C). add v.tally.counts u.counts) (alone whole) ∙ unit v.tally.counts in
-                  subst (λ (c : C). WentAlone m (λ past. follow past c) coming v.tally.parties (shows x)) none_is (a.alone (ap (λ (u : Played M Q V C). u.parties) (alone whole)));
-              told = λ call place hold done comes.
-                  let here = same_coming m coming may.call call may.place place may.hold hold may.done done v.tally.parties may.comes comes in
-                  λ j. view_of v.part (sees (act_at m (here.same_place j) (here.same_hold j) (shows x)) v.sights) (after (act_at m (here.same_place j) (here.same_hold j) (shows x)) (here.same_call j) v.tally.counts);
+              acted = record {
+                share = record {
+                  parties = r.played.parties;
+                  past = r.played.past;
+                  run = r.played.run;
+                  law = r.played.law;
+                  others = rest.parties;
+                  each = r.played.each;
+                  rest = rest.counts;
+                  says = r.follows;
+                  alone = λ whole. (ap (λ (u : Played M Q V C). u.parties) (alone whole), says_alone v rest (alone whole) r.played.past r.follows);
+                  found_is = found_so coming v.tally.parties i (shows x) intent may r.played.past a.found_is;
+                };
+                told = λ call place hold done comes.
+                    let here = same_coming m coming may.call call may.place place may.hold hold may.done done v.tally.parties may.comes comes in
+                    λ j. view_of v.part (sees (act_at m (here.same_place j) (here.same_hold j) (shows x)) v.sights) (after r.played.past (here.same_place j) (act_at m (here.same_place j) (here.same_hold j) (shows x)) (here.same_call j) v.tally.counts);
+              };
             },
           );
     }
 
-    -- a load that is no step lets the parties be
-    pub looks :
-        (v : View (Played M Q V C)) (i : ℕ) (tells : View C → ℕ → View C → Type 0) → Updates none add agree (counted_in v) i (λ n. n) (tells (counted_in v)) → StaysCounting m names add agree follow v.tally.counts (tells (counted_in v)) →
-        Updates (none_played none) (both_played add) (PlaysAndCounts m names agree follow) v i (λ n. n) (Looked tells v)
-    looks v i tells counts stays = record {
+    -- A load that is no step lets the parties be. What the pass knows then was known before, so all together know and count as they did.
+    pub learns : (core : C → C) → IsTally none add core → (v : View (Played M Q V C)) (i : ℕ) →
+        Updates (none_played none) (both_played add) (PlaysAndCounts m names agree follow) v i (λ n. n) (λ _ w. Learned m add core follow v w)
+    learns core laws v i = record {
       may = λ found homes rest r alone fits.
-          let b = counts.may found homes rest.counts r.agrees (λ whole. ap (λ (u : Played M Q V C). u.counts) (alone whole)) fits in (
-            view_of b.0.part b.0.sights (played v.tally.parties b.0.tally),
-            b.1,
+          let all : C = add v.tally.counts rest.counts in
+          let knows : C = add (core all) v.tally.counts in
+          let as_before : all ≡ add knows rest.counts = sym (laws.group (core all) v.tally.counts rest.counts ∙ laws.copy all) in (
+            view_of v.part v.sights (played v.tally.parties knows),
+            refl,
             record {
               played = record {
                 parties = r.played.parties;
@@ -228,10 +202,10 @@ module _ {V P : Type 0} (m : Model V P) (names : List Word) where
                 hold = subst (λ (ws : List ℕ). AllHold names ws (word_in m.table r.played.past)) (sym (set_as_it_was found i)) r.played.hold;
                 each = r.played.each;
               };
-              agrees = b.2;
-              follows = stays r.played.past (get_or found i 0) rest.counts b.0 b.3 (record { words = found; homes = homes; hold = r.played.hold; agreed = r.agrees; made = set found i (get_or found i 0); agrees = b.2 }) r.follows;
+              agrees = subst (λ (ws : List ℕ). agree ws homes (add knows rest.counts)) (sym (set_as_it_was found i)) (subst (agree found homes) as_before r.agrees);
+              follows = subst (follow r.played.past) as_before r.follows;
             },
-            record { parties = refl; told = b.3 },
+            record { parties = r.played.parties; past = r.played.past; run = r.played.run; rest = rest.counts; says = r.follows; now = refl },
           );
     }
 

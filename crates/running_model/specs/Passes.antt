@@ -6,29 +6,29 @@ use Rattle.running_model.specs.declared.played.Played.{Played}
 use Rattle.running_model.specs.Slots.{Slot, slot_at, all_of, Parties, no_parties, both_parties}
 use Rattle.running_model.specs.SlotLaws.{parties_add_up}
 use Rattle.running_passes.specs.Parts.{IsWhole}
-use Rattle.running_model.specs.Words.{AllHold, IsNamed, IsOnNoWord}
-use Rattle.running_model.specs.Plays.{events_of, Matches, IsPlayed, Coming, ComesBy, IsStepAt, act_at, Went, WentBy, WentBeside, WentAlone}
+use Rattle.running_model.specs.Words.{IsNamed, IsOnNoWord}
+use Rattle.running_model.specs.Plays.{events_of, Matches, IsPlayed, Coming, ComesBy, IsStepAt, act_at, Went, WentBy}
 
 -- the act of the step that found this makes this of what the pass saw and counts, and nothing else does
-abbrev pub Told : {V C P : Type 0} → Model V P → (Act V → Sights → Sights) → (Act V → Call V → C → C) → Coming V → Parties V → ℕ → View C → View C → Type 0
-Told {V} {C} {P} m sees after coming p found v w =
+abbrev pub ToldAt : {V C P : Type 0} → Model V P → (Act V → Sights → Sights) → (P → Act V → Call V → C → C) → Coming V → Parties V → ℕ → View C → View C → Type 0
+ToldAt {V} {C} {P} m sees after coming p found v w =
     (call : Call V) (place : P) (hold : Option HoldKind) (done : List (Slot V)) → ComesBy m coming call place hold done p →
-    w ≡ view_of v.part (sees (act_at m place hold found) v.sights) (after (act_at m place hold found) call v.tally)
+    w ≡ view_of v.part (sees (act_at m place hold found) v.sights) (after place (act_at m place hold found) call v.tally)
 
--- with what others count, the run before the step says of what the pass counts
-pub record IsShare {V C P : Type 0} (m : Model V P) (add : C → C → C) (follow : List (Event V) → C → Type 0) (coming : Coming V) (p : Parties V) (found : ℕ) (counts : C) : Type 0 where
-  pub rest : C
-  pub beside : WentBeside m (λ past. follow past (add counts rest)) coming p found
+-- wherever it stands
+abbrev pub Told : {V C P : Type 0} → Model V P → (Act V → Sights → Sights) → (Act V → Call V → C → C) → Coming V → Parties V → ℕ → View C → View C → Type 0
+Told m sees after = ToldAt m sees (λ _. after)
 
 -- whatever the step finds on the word at this index, its act has what it needs of what the pass counts
 abbrev pub HasNeeds : {V C : Type 0} → List Word → ℕ → (Act V → C → Type 0) → (Word → Intent V) → C → Type 0
 HasNeeds names i needs intent counts = (name : Word) (found : ℕ) → IsNamed names i name → needs (carried_out (intent name) (λ _. found)) counts
 
--- What each party counts by its act, all count: if the run says of what all passes count, then it says so of it after the next step.
-abbrev pub GoesOnByActs : {V C P : Type 0} → Model V P → (C → C → C) → (List (Event V) → C → Type 0) → (Act V → Call V → C → C) → (Act V → C → Type 0) → Type 0
+-- What each party counts by its act, after the run before it, all count: if the run says of what all passes count, then it says so of it after the
+-- next step.
+abbrev pub GoesOnByActs : {V C P : Type 0} → Model V P → (C → C → C) → (List (Event V) → C → Type 0) → (List (Event V) → P → Act V → Call V → C → C) → (Act V → C → Type 0) → Type 0
 GoesOnByActs {V} {C} {P} m add follow after needs =
     (call : Call V) (place : P) (hold : Option HoldKind) (past : List (Event V)) (e : Event V) (found : ℕ) → IsStepAt m call place hold found past e →
-    (counts rest : C) → needs e.act counts → follow past (add counts rest) → follow (e ∷ past) (add (after e.act call counts) rest)
+    (counts rest : C) → needs e.act counts → follow past (add counts rest) → follow (e ∷ past) (add (after past place e.act call counts) rest)
 
 module _ {M Q V C : Type 0} where
   abbrev pub played : Parties V → C → Played M Q V C
@@ -86,48 +86,44 @@ module _ {M Q V C : Type 0} where
     pub each : (q : ℕ) → Matches (slot_at q (all_of p.parties)) (events_of q past)
     pub follows : follow past p.counts
 
-  -- what a load that is no step of the model tells
-  pub record Looked (tells : View C → ℕ → View C → Type 0) (v : View (Played M Q V C)) (found : ℕ) (w : View (Played M Q V C)) : Type 0 where
-    pub parties : w.tally.parties ≡ v.tally.parties
-    pub told : tells (counted_in v) found (counted_in w)
+  -- Before the step of a pass with this view there was a run in which the pass and others were the parties, and which says of what all counted. The step
+  -- did what it does at the words of that run. Where no other pass was left, there were no others.
+  pub record IsShare {P : Type 0} (m : Model V P) (add : C → C → C) (follow : List (Event V) → C → Type 0) (coming : Coming V) (v : View (Played M Q V C)) (found : ℕ) : Type 0 where
+    pub parties : ℕ
+    pub past : List (Event V)
+    pub run : IsPast m.arithmetic m.table parties past
+    pub law : m.law past
+    pub others : Parties V
+    pub each : (q : ℕ) → Matches (slot_at q (all_of (both_parties v.tally.parties others))) (events_of q past)
+    pub rest : C
+    pub says : follow past (add v.tally.counts rest)
+    pub alone : IsWhole v.part → (others ≡ no_parties) × follow past v.tally.counts
+    pub found_is : (call : Call V) (place : P) (hold : Option HoldKind) (done : List (Slot V)) → ComesBy m coming call place hold done v.tally.parties → act_at m place hold found ≡ carried_out (m.table.intent place hold) (word_in m.table past)
 
-  -- what a step by a pass with this view tells: where it led; where no other pass was left, of which run; and what it changed in what the pass counts
-  pub record Stepped {P : Type 0} (m : Model V P) (follow : List (Event V) → C → Type 0) (coming : Coming V) (tells : View C → ℕ → View C → Type 0) (v : View (Played M Q V C)) (found : ℕ) (w : View (Played M Q V C)) : Type 0 where
-    pub went : Went m coming v.tally.parties found w.tally.parties
-    pub alone : IsWhole v.part → WentAlone m (λ past. follow past v.tally.counts) coming v.tally.parties found
-    pub told : tells (counted_in v) found (counted_in w)
+  -- and what its act, after that run, made of what the pass saw and counted
+  pub record Acted {P : Type 0} (m : Model V P) (add : C → C → C) (follow : List (Event V) → C → Type 0) (sees : Act V → Sights → Sights) (after : List (Event V) → P → Act V → Call V → C → C) (coming : Coming V) (v : View (Played M Q V C)) (found : ℕ) (w : View (Played M Q V C)) : Type 0 where
+    pub share : IsShare m add follow coming v found
+    pub told : ToldAt m sees (after share.past) coming v.tally.parties found (counted_in v) (counted_in w)
 
-  -- what a step by a pass with this view tells: where it led; beside whom; where no other pass was left, of which run; and what its act made of what
-  -- the pass counts
-  pub record SteppedByAct {P : Type 0} (m : Model V P) (add : C → C → C) (follow : List (Event V) → C → Type 0) (sees : Act V → Sights → Sights) (after : Act V → Call V → C → C) (coming : Coming V) (v : View (Played M Q V C)) (found : ℕ) (w : View (Played M Q V C)) : Type 0 where
+  -- What a load that is no step of the model tells: there was a run that says of what all counted, and the pass knows now what they know together.
+  pub record Learned {P : Type 0} (m : Model V P) (add : C → C → C) (core : C → C) (follow : List (Event V) → C → Type 0) (v w : View (Played M Q V C)) : Type 0 where
+    pub parties : ℕ
+    pub past : List (Event V)
+    pub run : IsPast m.arithmetic m.table parties past
+    pub rest : C
+    pub says : follow past (add v.tally.counts rest)
+    pub now : w ≡ view_of v.part v.sights (played v.tally.parties (add (core (add v.tally.counts rest)) v.tally.counts))
+
+  -- what a step by a pass with this view tells: where it led; that it alone made it; and what its act did
+  pub record SteppedByAct {P : Type 0} (m : Model V P) (add : C → C → C) (follow : List (Event V) → C → Type 0) (sees : Act V → Sights → Sights) (after : List (Event V) → P → Act V → Call V → C → C) (coming : Coming V) (v : View (Played M Q V C)) (found : ℕ) (w : View (Played M Q V C)) : Type 0 where
     pub went : Went m coming v.tally.parties found w.tally.parties
     pub by : WentBy m coming v.tally.parties found w.tally.parties
-    pub beside : IsShare m add follow coming v.tally.parties found v.tally.counts
-    pub alone : IsWhole v.part → WentAlone m (λ past. follow past v.tally.counts) coming v.tally.parties found
-    pub told : Told m sees after coming v.tally.parties found (counted_in v) (counted_in w)
-
--- What all passes counted agreed with the words of this run; and what they count after a step agrees with words again, those that it has made.
-pub record StillAgrees {V P S C : Type 0} (m : Model V P) (names : List Word) (agree : List ℕ → List (maybe.Option S) → C → Type 0) (past : List (Event V)) (before after : C) : Type 0 where
-  pub words : List ℕ
-  pub homes : List (maybe.Option S)
-  pub hold : AllHold names words (word_in m.table past)
-  pub agreed : agree words homes before
-  pub made : List ℕ
-  pub agrees : agree made homes after
-
--- Where the step on the word at this index tells this of what its pass counts, and what all passes count was what the run says, and agreed with
--- the words and agrees with them again, then it is what the run says after the step.
-abbrev pub GoesOnCounting : {V P S C : Type 0} → Model V P → List Word → (C → C → C) → (List ℕ → List (maybe.Option S) → C → Type 0) → (List (Event V) → C → Type 0) → Coming V → ℕ → (Word → Intent V) → Parties V → C → (ℕ → View C → Type 0) → Type 0
-GoesOnCounting {V} {P} {S} {C} m names add agree follow coming i intent p counts tells =
-    (call : Call V) (place : P) (hold : Option HoldKind) (done : List (Slot V)) → ComesBy m coming call place hold done p →
-    (past : List (Event V)) (e : Event V) (found : ℕ) → IsStepAt m call place hold found past e → (name : Word) → IsNamed names i name → e.act ≡ carried_out (intent name) (λ _. found) →
-    (rest : C) (w : View C) → tells found w → StillAgrees m names agree past (add counts rest) (add w.tally rest) → follow past (add counts rest) → follow (e ∷ past) (add w.tally rest)
-
--- and so it is where a pass looks at a word without a step
-abbrev pub StaysCounting : {V P S C : Type 0} → Model V P → List Word → (C → C → C) → (List ℕ → List (maybe.Option S) → C → Type 0) → (List (Event V) → C → Type 0) → C → (ℕ → View C → Type 0) → Type 0
-StaysCounting {V} {P} {S} {C} m names add agree follow counts tells =
-    (past : List (Event V)) (found : ℕ) (rest : C) (w : View C) → tells found w → StillAgrees m names agree past (add counts rest) (add w.tally rest) → follow past (add counts rest) → follow past (add w.tally rest)
+    pub acted : Acted m add follow sees after coming v found w
 
 -- acts on no word change nothing of it
 abbrev pub StaysOnNoWord : {V C : Type 0} → (List (Event V) → C → Type 0) → Type 0
 StaysOnNoWord {V} {C} follow = (past : List (Event V)) (e : Event V) (counts : C) → IsOnNoWord e.act → follow past counts → follow (e ∷ past) counts
+
+-- and an act makes the same after it
+abbrev pub SameOnNoWord : {V P C : Type 0} → (List (Event V) → P → Act V → Call V → C → C) → Type 0
+SameOnNoWord {V} {P} {C} after = (past : List (Event V)) (e : Event V) (place : P) (act : Act V) (call : Call V) (counts : C) → IsOnNoWord e.act → after (e ∷ past) place act call counts ≡ after past place act call counts

@@ -197,29 +197,6 @@ module _ {V P : Type 0} (m : Model V P) where
     pub intends : m.table.intent place hold ≡ intent name
     pub on : IsStepOn name (intent name)
 
-  -- Before the step there was a run in which no other parties are than these, of which this is known, and the step did what it does at the
-  -- words of that run.
-  pub record StoodAlone (Says : List (Event V) → Type 0) (place : P) (hold : Option HoldKind) (found : ℕ) (p : Parties V) : Type 0 where
-    pub parties : ℕ
-    pub past : List (Event V)
-    pub run : IsPast m.arithmetic m.table parties past
-    pub law : m.law past
-    pub says : Says past
-    pub each : (q : ℕ) → Matches (slot_at q (all_of p)) (events_of q past)
-    pub found_is : act_at place hold found ≡ carried_out (m.table.intent place hold) (word_in m.table past)
-
-  -- Before the step there was a run in which the pass and others were the parties, of which this is known, and the step did what it does at
-  -- the words of that run.
-  pub record StoodBeside (Says : List (Event V) → Type 0) (place : P) (hold : Option HoldKind) (found : ℕ) (p : Parties V) : Type 0 where
-    pub parties : ℕ
-    pub past : List (Event V)
-    pub run : IsPast m.arithmetic m.table parties past
-    pub law : m.law past
-    pub says : Says past
-    pub others : Parties V
-    pub each : (q : ℕ) → Matches (slot_at q (all_of (both_parties p others))) (events_of q past)
-    pub found_is : act_at place hold found ≡ carried_out (m.table.intent place hold) (word_in m.table past)
-
   -- Right after these events a party made the step of this call at this place, which found this; and this is its event.
   pub record IsStepAt (call : Call V) (place : P) (hold : Option HoldKind) (found : ℕ) (past : List (Event V)) (e : Event V) : Type 0 where
     pub parties : ℕ
@@ -257,11 +234,3 @@ module _ {V P : Type 0} (m : Model V P) where
   -- it has made its step, which found this
   abbrev pub Went : Coming V → Parties V → ℕ → Parties V → Type 0
   Went coming p found q = (call : Call V) (place : P) (hold : Option HoldKind) (done : List (Slot V)) → ComesBy coming call place hold done p → Led call place hold found done q
-
-  -- and whichever others there were
-  abbrev pub WentBeside : (List (Event V) → Type 0) → Coming V → Parties V → ℕ → Type 0
-  WentBeside Says coming p found = (call : Call V) (place : P) (hold : Option HoldKind) (done : List (Slot V)) → ComesBy coming call place hold done p → StoodBeside Says place hold found p
-
-  -- and no other pass was left
-  abbrev pub WentAlone : (List (Event V) → Type 0) → Coming V → Parties V → ℕ → Type 0
-  WentAlone Says coming p found = (call : Call V) (place : P) (hold : Option HoldKind) (done : List (Slot V)) → ComesBy coming call place hold done p → StoodAlone Says place hold found p

@@ -24,15 +24,14 @@ impl<K, P, V, M: Script<K, P, V>, C: CountsByActs<K, M, P, V>, W: Way<V>> Deed<
 > for StepByAct<M, P, V, W> {
     ghost use Rattle.running_model.specs.Passes.{SteppedByAct};
 
-    ghost tells = { λ key _ _ before found after. SteppedByAct (M.model key) C.add (C.follow key) C.sees C.after W.coming before found after };
+    ghost tells = { λ key _ _ before found after. SteppedByAct (M.model key) C.add (C.follow key) C.sees (C.after key) W.coming before found after };
 }
 
 impl<'p, M, P, V, C, W> Turn<'p, Pass<Played<M, P, V, C>>, W> {
     ghost use Rattle.model_events.specs.declared.row.Intent.TheVariants as intents;
-    ghost use Rattle.running_passes.specs.Parts.{IsWhole};
-    ghost use Rattle.running_passes.specs.Passes.{part_of, IsSamePass};
-    ghost use Rattle.running_model.specs.Plays.{MayStep, Went, WentBy, WentAlone};
-    ghost use Rattle.running_model.specs.Passes.{parties_of, counts_of, counted, IsShare, HasNeeds, Told};
+    ghost use Rattle.running_passes.specs.Passes.{view, IsSamePass};
+    ghost use Rattle.running_model.specs.Plays.{MayStep, Went, WentBy};
+    ghost use Rattle.running_model.specs.Passes.{parties_of, counts_of, Acted, HasNeeds};
     ghost use Rattle.running_model.specs.Stages.{IsPassOf, key_of, count_of};
 
     /// The load that the table has.
@@ -54,9 +53,7 @@ impl<'p, M, P, V, C, W> Turn<'p, Pass<Played<M, P, V, C>>, W> {
         ensures same { IsSamePass self.entry.pass.now result.1.pass.now }
         ensures went { Went (M.model (key_of at.now)) W.coming (parties_of self.entry.pass.now) result.0 (parties_of result.1.pass.now) }
         ensures by { WentBy (M.model (key_of at.now)) W.coming (parties_of self.entry.pass.now) result.0 (parties_of result.1.pass.now) }
-        ensures beside { IsShare (M.model (key_of at.now)) C.add (C.follow (key_of at.now)) W.coming (parties_of self.entry.pass.now) result.0 (counts_of self.entry.pass.now) }
-        ensures alone { IsWhole (part_of self.entry.pass.now) → WentAlone (M.model (key_of at.now)) (λ past. C.follow (key_of at.now) past (counts_of self.entry.pass.now)) W.coming (parties_of self.entry.pass.now) result.0 }
-        ensures told { Told (M.model (key_of at.now)) C.sees C.after W.coming (parties_of self.entry.pass.now) result.0 (counted self.entry.pass.now) (counted result.1.pass.now) }
+        ensures acted { Acted (M.model (key_of at.now)) C.add (C.follow (key_of at.now)) C.sees (C.after (key_of at.now)) W.coming (view self.entry.pass.now) result.0 (view result.1.pass.now) }
     {
         let Turn { pass, by: _ } = self;
         let found = at.words.load::<StepByAct<M, P, V, W>>(pass, word);
@@ -87,9 +84,7 @@ impl<'p, M, P, V, C, W> Turn<'p, Pass<Played<M, P, V, C>>, W> {
         ensures same { IsSamePass self.entry.pass.now result.pass.now }
         ensures went { Went (M.model (key_of at.now)) W.coming (parties_of self.entry.pass.now) put (parties_of result.pass.now) }
         ensures by { WentBy (M.model (key_of at.now)) W.coming (parties_of self.entry.pass.now) put (parties_of result.pass.now) }
-        ensures beside { IsShare (M.model (key_of at.now)) C.add (C.follow (key_of at.now)) W.coming (parties_of self.entry.pass.now) put (counts_of self.entry.pass.now) }
-        ensures alone { IsWhole (part_of self.entry.pass.now) → WentAlone (M.model (key_of at.now)) (λ past. C.follow (key_of at.now) past (counts_of self.entry.pass.now)) W.coming (parties_of self.entry.pass.now) put }
-        ensures told { Told (M.model (key_of at.now)) C.sees C.after W.coming (parties_of self.entry.pass.now) put (counted self.entry.pass.now) (counted result.pass.now) }
+        ensures acted { Acted (M.model (key_of at.now)) C.add (C.follow (key_of at.now)) C.sees (C.after (key_of at.now)) W.coming (view self.entry.pass.now) put (view result.pass.now) }
     {
         let Turn { pass, by: _ } = self;
         at.words.store::<StepByAct<M, P, V, W>>(pass, word, put);
@@ -120,9 +115,7 @@ impl<'p, M, P, V, C, W> Turn<'p, Pass<Played<M, P, V, C>>, W> {
         ensures same { IsSamePass self.entry.pass.now result.1.pass.now }
         ensures went { Went (M.model (key_of at.now)) W.coming (parties_of self.entry.pass.now) result.0 (parties_of result.1.pass.now) }
         ensures by { WentBy (M.model (key_of at.now)) W.coming (parties_of self.entry.pass.now) result.0 (parties_of result.1.pass.now) }
-        ensures beside { IsShare (M.model (key_of at.now)) C.add (C.follow (key_of at.now)) W.coming (parties_of self.entry.pass.now) result.0 (counts_of self.entry.pass.now) }
-        ensures alone { IsWhole (part_of self.entry.pass.now) → WentAlone (M.model (key_of at.now)) (λ past. C.follow (key_of at.now) past (counts_of self.entry.pass.now)) W.coming (parties_of self.entry.pass.now) result.0 }
-        ensures told { Told (M.model (key_of at.now)) C.sees C.after W.coming (parties_of self.entry.pass.now) result.0 (counted self.entry.pass.now) (counted result.1.pass.now) }
+        ensures acted { Acted (M.model (key_of at.now)) C.add (C.follow (key_of at.now)) C.sees (C.after (key_of at.now)) W.coming (view self.entry.pass.now) result.0 (view result.1.pass.now) }
     {
         let Turn { pass, by: _ } = self;
         let found = at
@@ -155,9 +148,7 @@ impl<'p, M, P, V, C, W> Turn<'p, Pass<Played<M, P, V, C>>, W> {
         ensures same { IsSamePass self.entry.pass.now result.1.pass.now }
         ensures went { Went (M.model (key_of at.now)) W.coming (parties_of self.entry.pass.now) result.0 (parties_of result.1.pass.now) }
         ensures by { WentBy (M.model (key_of at.now)) W.coming (parties_of self.entry.pass.now) result.0 (parties_of result.1.pass.now) }
-        ensures beside { IsShare (M.model (key_of at.now)) C.add (C.follow (key_of at.now)) W.coming (parties_of self.entry.pass.now) result.0 (counts_of self.entry.pass.now) }
-        ensures alone { IsWhole (part_of self.entry.pass.now) → WentAlone (M.model (key_of at.now)) (λ past. C.follow (key_of at.now) past (counts_of self.entry.pass.now)) W.coming (parties_of self.entry.pass.now) result.0 }
-        ensures told { Told (M.model (key_of at.now)) C.sees C.after W.coming (parties_of self.entry.pass.now) result.0 (counted self.entry.pass.now) (counted result.1.pass.now) }
+        ensures acted { Acted (M.model (key_of at.now)) C.add (C.follow (key_of at.now)) C.sees (C.after (key_of at.now)) W.coming (view self.entry.pass.now) result.0 (view result.1.pass.now) }
     {
         let Turn { pass, by: _ } = self;
         let found = at
@@ -190,9 +181,7 @@ impl<'p, M, P, V, C, W> Turn<'p, Pass<Played<M, P, V, C>>, W> {
         ensures same { IsSamePass self.entry.pass.now result.1.pass.now }
         ensures went { Went (M.model (key_of at.now)) W.coming (parties_of self.entry.pass.now) result.0 (parties_of result.1.pass.now) }
         ensures by { WentBy (M.model (key_of at.now)) W.coming (parties_of self.entry.pass.now) result.0 (parties_of result.1.pass.now) }
-        ensures beside { IsShare (M.model (key_of at.now)) C.add (C.follow (key_of at.now)) W.coming (parties_of self.entry.pass.now) result.0 (counts_of self.entry.pass.now) }
-        ensures alone { IsWhole (part_of self.entry.pass.now) → WentAlone (M.model (key_of at.now)) (λ past. C.follow (key_of at.now) past (counts_of self.entry.pass.now)) W.coming (parties_of self.entry.pass.now) result.0 }
-        ensures told { Told (M.model (key_of at.now)) C.sees C.after W.coming (parties_of self.entry.pass.now) result.0 (counted self.entry.pass.now) (counted result.1.pass.now) }
+        ensures acted { Acted (M.model (key_of at.now)) C.add (C.follow (key_of at.now)) C.sees (C.after (key_of at.now)) W.coming (view self.entry.pass.now) result.0 (view result.1.pass.now) }
     {
         let Turn { pass, by: _ } = self;
         let found = at

@@ -29,7 +29,7 @@ pub trait Carries<S, M: Script<(), P, V>, P, V, C: Tally> {
 
     ghost needs: { Act V → C → Type 0 };
 
-    ghost goes_on: { GoesOnByActs (M.model tt) C.add follow after needs };
+    ghost goes_on: { GoesOnByActs (M.model tt) C.add follow (λ _ _. after) needs };
 
     // Which slots are at home by what all passes count, and which a seat carries by what its own pass counts.
     ghost lies: { C → List (maybe.Option S) → Type 0 };

@@ -5,7 +5,7 @@ ghost use mathlib.Core.Option as maybe;
 ghost use Rattle.model_events.specs.declared.event.Act.{Act};
 ghost use Rattle.model_events.specs.declared.event.Call.{Call};
 ghost use Rattle.running_passes.specs.declared.part.Sights.{Sights};
-ghost use Rattle.running_model.specs.Passes.{StaysOnNoWord, GoesOnByActs};
+ghost use Rattle.running_model.specs.Passes.{StaysOnNoWord, SameOnNoWord, GoesOnByActs};
 
 use crate::script::Script;
 use running_passes::Rule;
@@ -18,23 +18,27 @@ pub trait Counts<K, V>: Rule<(), K> {
     // Acts on no word change nothing of it.
     ghost stays: { (key : K) → StaysOnNoWord (follow key) };
 
-    // It is so of a run in which nobody has made anything.
-    ghost opens: { (key : K) → follow key [] (Self.Rule.first key) };
+    // It is so of a run in which nobody has made anything, where the rule is.
+    ghost opens: { (key : K) (words : List ℕ) → Self.Rule.agrees key words [] (Self.Rule.first key) → follow key [] (Self.Rule.first key) };
 }
 
-/// What a pass counts as a function of the acts of its own steps, of an object whose rule asks nothing of the words beside.
+/// What a pass counts as a function of the acts of its own steps and of the runs before them, of an object whose rule says nothing
+/// beside.
 pub trait CountsByActs<K, M: Script<K, P, V>, P, V>: Counts<K, V> {
-    // The rule asks nothing of them.
-    ghost free: { (key : K) (words : List ℕ) (homes : List (maybe.Option (Unit {0}))) (counts : Self) → Self.Counts.agrees key words homes counts };
+    // The rule says nothing that the run does not.
+    ghost free: { (key : K) (past : List (Event V)) (words : List ℕ) (homes : List (maybe.Option (Unit {0}))) (counts : Self) → Self.Counts.follow key past counts → Self.Counts.agrees key words homes counts };
 
-    // What an act makes of what its pass saw, and what an act of a call makes of what its pass counts.
+    // What an act makes of what its pass saw, and what an act of a call, after a run and at a place, makes of what its pass counts.
     ghost sees: { Act V → Sights → Sights };
 
-    ghost after: { Act V → Call V → Self → Self };
+    ghost after: { K → List (Event V) → P → Act V → Call V → Self → Self };
+
+    // Acts on no word before it change nothing of that.
+    ghost same: { (key : K) → SameOnNoWord (after key) };
 
     // What an act needs of what its pass counts: one that ends a hold needs the hold.
     ghost needs: { Act V → Self → Type 0 };
 
     // What the run says of the sum goes on with what each act counts.
-    ghost goes_on: { (key : K) → GoesOnByActs (M.model key) Self.Counts.add (Self.Counts.follow key) after needs };
+    ghost goes_on: { (key : K) → GoesOnByActs (M.model key) Self.Counts.add (Self.Counts.follow key) (after key) needs };
 }

@@ -11,7 +11,6 @@ mod played;
 mod script;
 pub mod seat;
 mod stage;
-mod step;
 mod tries;
 pub mod turn;
 mod wait;

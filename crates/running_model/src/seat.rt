@@ -68,7 +68,7 @@ impl<S, P, V, M: Script<(), P, V>, C: Tally, W: Way<V>, G: Carries<S, M, P, V, C
     S,
     View<Played<M, P, V, C>>,
 > for StepByAct<M, P, V, W, G> {
-    ghost then = { λ _ before found after. SteppedByAct (M.model tt) C.add G.follow G.sees G.after W.coming before.0 found after.0 × G.carries after.0.tally.counts after.1 };
+    ghost then = { λ _ before found after. SteppedByAct (M.model tt) C.add G.follow G.sees (λ _ _. G.after) W.coming before.0 found after.0 × G.carries after.0.tally.counts after.1 };
 }
 
 impl<S, M, P, V, C, W> SeatTurn<S, Played<M, P, V, C>, W> {
@@ -92,7 +92,7 @@ impl<S, M, P, V, C, W> SeatTurn<S, Played<M, P, V, C>, W> {
         requires alive { 0 < self.seat.me.0.part.share }
         requires carries { G.carries self.seat.me.0.tally.counts self.seat.me.1 }
         ensures same { (result.1.seat.table_id ≡ self.seat.table_id) × (result.1.seat.id ≡ self.seat.id) }
-        ensures stepped { SteppedByAct (M.model tt) C.add G.follow G.sees G.after W.coming self.seat.me.0 result.0 result.1.seat.me.0 }
+        ensures stepped { SteppedByAct (M.model tt) C.add G.follow G.sees (λ _ _. G.after) W.coming self.seat.me.0 result.0 result.1.seat.me.0 }
         ensures carries { G.carries result.1.seat.me.0.tally.counts result.1.seat.me.1 }
     {
         let SeatTurn { mut seat, by: _ } = self;
@@ -125,7 +125,7 @@ impl<S, M, P, V, C, W> SeatTurn<S, Played<M, P, V, C>, W> {
         requires alive { 0 < self.seat.me.0.part.share }
         requires carries { G.carries self.seat.me.0.tally.counts self.seat.me.1 }
         ensures same { (result.1.seat.table_id ≡ self.seat.table_id) × (result.1.seat.id ≡ self.seat.id) }
-        ensures stepped { SteppedByAct (M.model tt) C.add G.follow G.sees G.after W.coming self.seat.me.0 result.0 result.1.seat.me.0 }
+        ensures stepped { SteppedByAct (M.model tt) C.add G.follow G.sees (λ _ _. G.after) W.coming self.seat.me.0 result.0 result.1.seat.me.0 }
         ensures carries { G.carries result.1.seat.me.0.tally.counts result.1.seat.me.1 }
     {
         let SeatTurn { mut seat, by: _ } = self;
@@ -157,7 +157,7 @@ impl<S, M, P, V, C, W> SeatTurn<S, Played<M, P, V, C>, W> {
         requires alive { 0 < self.seat.me.0.part.share }
         requires carries { G.carries self.seat.me.0.tally.counts self.seat.me.1 }
         ensures same { (result.seat.table_id ≡ self.seat.table_id) × (result.seat.id ≡ self.seat.id) }
-        ensures stepped { SteppedByAct (M.model tt) C.add G.follow G.sees G.after W.coming self.seat.me.0 put result.seat.me.0 }
+        ensures stepped { SteppedByAct (M.model tt) C.add G.follow G.sees (λ _ _. G.after) W.coming self.seat.me.0 put result.seat.me.0 }
         ensures carries { G.carries result.seat.me.0.tally.counts result.seat.me.1 }
     {
         let SeatTurn { mut seat, by: _ } = self;

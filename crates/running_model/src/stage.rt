@@ -11,18 +11,16 @@ use std::marker::PhantomData;
 use std::ops::Deref;
 
 /// A load that is no step of the model.
-struct Look<M, P, V, D> {
+struct Look<M, P, V> {
     of: PhantomData<M>,
     at: PhantomData<P>,
     over: PhantomData<V>,
-    tells: PhantomData<D>,
 }
 
-impl<K, P, V, M: Script<K, P, V>, C: Counts<K, V>, D: Deed<K, C>> Deed<K, Played<M, P, V, C>>
-    for Look<M, P, V, D> {
-    ghost use Rattle.running_model.specs.Passes.{Looked};
+impl<K, P, V, M: Script<K, P, V>, C: Counts<K, V>> Deed<K, Played<M, P, V, C>> for Look<M, P, V> {
+    ghost use Rattle.running_model.specs.Passes.{Learned};
 
-    ghost tells = { λ key first second before found after. Looked (D.tells key first second) before found after };
+    ghost tells = { λ key _ _ before _ after. Learned (M.model key) C.add C.core (C.follow key) before after };
 }
 
 /// The words of an object that plays a model. A pass makes the step that the table has at the place of its call, and no other.
@@ -49,12 +47,12 @@ impl<K, M: Script<K, P, V>, P, V, C: Counts<K, V>, A: Allocator> Stage<K, M, P, 
     ghost use Rattle.running_passes.specs.declared.words.Word.{Word as PassesWord};
     ghost use Rattle.running_passes.specs.Parts.{IsWhole};
     ghost use Rattle.running_passes.specs.Passes.{view, part_of, tally_of, IsSamePass};
-    ghost use Rattle.running_passes.specs.Views.{first_view, Updates};
+    ghost use Rattle.running_passes.specs.Views.{first_view};
     ghost use Rattle.running_passes.specs.Objects.{HasClosed, HaveClosed};
     ghost use Rattle.running_model.specs.declared.played.Played.{Played as PlayedBy};
     ghost use Rattle.running_model.specs.Slots.{no_parties};
     ghost use Rattle.running_model.specs.Words.{AllHold};
-    ghost use Rattle.running_model.specs.Passes.{played, parties_of, counts_of, counted, PlaysAndCounts, StaysCounting};
+    ghost use Rattle.running_model.specs.Passes.{played, PlaysAndCounts, Learned};
     ghost use Rattle.running_model.specs.Stages.{IsPassOf, IsWordOf, key_of, count_of};
 
     /// The words of an object that nobody has called, and the pass that is whole. `Err` where there was no memory; then nothing was made.
@@ -89,18 +87,15 @@ impl<K, M: Script<K, P, V>, P, V, C: Counts<K, V>, A: Allocator> Stage<K, M, P, 
         }
     }
 
-    /// A load that is no step of the model: it tells of what the pass counts alone, and the parties stay as they are.
+    /// A load that is no step of the model: the pass has made and seen nothing by it, and knows then what all passes know together.
     #[inline(always)]
-    pub fn look<D: Deed<K, C>>(&self, pass: &mut Pass<Played<M, P, V, C>>, word: usize) -> u64
+    pub fn learn(&self, pass: &mut Pass<Played<M, P, V, C>>, word: usize)
         requires own { IsPassOf self.now pass.old }
         requires inside { word < count_of self.now }
-        requires update { Updates C.none C.add (C.agrees (key_of self.now)) (counted pass.old) word (λ n. n) (D.tells (key_of self.now) 0 0 (counted pass.old)) }
-        requires follow { StaysCounting (M.model (key_of self.now)) M.names C.add (C.agrees (key_of self.now)) (C.follow (key_of self.now)) (counts_of pass.old) (D.tells (key_of self.now) 0 0 (counted pass.old)) }
         ensures same { IsSamePass pass.old pass.new }
-        ensures stayed { parties_of pass.new ≡ parties_of pass.old }
-        ensures told { D.tells (key_of self.now) 0 0 (counted pass.old) result (counted pass.new) }
+        ensures learned { Learned (M.model (key_of self.now)) C.add C.core (C.follow (key_of self.now)) (view pass.old) (view pass.new) }
     {
-        self.words.load::<Look<M, P, V, D>>(pass, word)
+        self.words.load::<Look<M, P, V>>(pass, word);
     }
 
     /// Ends the object, and answers a word. With the whole pass, that word is of a run in which only the pass's own parties are.

@@ -1,19 +1,18 @@
 -- What a step makes of what a pass of the count saw and counts; and where no other pass is left and no wait of its own is there, the count is 0.
-use Rattle.running_mutex.specs.Names.{Word, Intent, Coming, MayStep, Parties, View, looked, wrote}
+use Rattle.running_mutex.specs.Names.{Word, Intent, Coming, MayStep, Parties, View, looked, wrote, IsWhole, view, part_of, parties_of, counts_of}
 use Rattle.running_mutex.proofs.Names.{◌≡◌, ◌≢◌, ℕ, ◌+◌, ◌-◌, ◌%◌, ◌^◌, Bool, cond, [], ◌∷◌, sym, refl, ap, ◌∙◌, arith, ne_eqb}
 use Rattle.std.specs.Prelude.{length, not}
 use Rattle.model_events.specs.Past.{word_in}
 use Rattle.model_events.proofs.Holds.{eqb_same}
 use Rattle.model_condvar.specs.Waiters.{waiting_after}
 use Rattle.model_waiters.specs.Table.{waiters_table}
-use Rattle.running_model.specs.Passes.{Told}
-use Rattle.running_model.specs.Plays.{WentAlone}
+use Rattle.running_model.specs.Passes.{IsShare, Told}
 use Rattle.running_model.specs.Sees.{sights_after}
 use Rattle.running_model.proofs.Steps.{told_so, found_there}
 use Rattle.running_model.proofs.Words.{hold_at}
 use Rattle.running_mutex.specs.declared.waits.Waits.{Waits}
 use Rattle.running_mutex.specs.CondScript.{waiters_model}
-use Rattle.running_mutex.specs.CondRule.{went_in, went_out, waits_after, AreWaitsIn, CountIsInside}
+use Rattle.running_mutex.specs.CondRule.{WaitsPass, both_waits, went_in, went_out, waits_after, AreWaitsIn, CountIsInside}
 
 -- what a step tells, by its act
 
@@ -39,13 +38,13 @@ counts_out way p found v w may told = told_so _ _ _ _ (λ k. Intent.Subtract k 1
 none_left : (begun ended ins outs waiting word : ℕ) → begun ≡ ins → ended ≡ outs → ended ≡ begun → ins ≡ outs + waiting → word ≡ waiting % 2 ^ 64 → word ≡ 0
 none_left begun ended ins outs waiting word h1 h2 h3 h4 h5 = omega (arith, h1, h2, h3, h4, h5)
 
-pub none_there : (t : Waits) (way : Coming ℕ) (p : Parties ℕ) (found : ℕ) → MayStep waiters_model (Word.Waiters ∷ []) way 0 (λ w. Intent.Load w) p →
-    WentAlone waiters_model (λ past. AreWaitsIn past t) way p found → t.ended ≡ t.begun → found ≡ 0
-none_there t way p found may went out =
-    let s = went may.call may.place may.hold may.done may.comes in
-    let found_is = found_there _ _ _ _ (λ w. Intent.Load w) p may Word.Waiters may.named found (λ w memory. refl) (word_in waiters_table s.past) s.found_is in
+pub none_there : (way : Coming ℕ) (p : WaitsPass) (found : ℕ) → MayStep waiters_model (Word.Waiters ∷ []) way 0 (λ w. Intent.Load w) (parties_of p) →
+    IsShare waiters_model both_waits AreWaitsIn way (view p) found → IsWhole (part_of p) → (counts_of p).ended ≡ (counts_of p).begun → found ≡ 0
+none_there way p found may s whole out =
+    let says = (s.alone whole).1 in
+    let found_is = found_there _ _ _ _ (λ w. Intent.Load w) (parties_of p) may Word.Waiters may.named found (λ w memory. refl) (word_in waiters_table s.past) s.found_is in
     let law = s.law.law.waiters in
-    none_left t.begun t.ended _ _ _ found s.says.begun s.says.ended out law.left (found_is ∙ law.counts)
+    none_left (counts_of p).begun (counts_of p).ended _ _ _ found says.begun says.ended out law.left (found_is ∙ law.counts)
 
 -- whenever the rule holds
 pub count_is_inside : CountIsInside

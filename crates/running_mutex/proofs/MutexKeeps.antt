@@ -1,7 +1,6 @@
 -- What a step makes of what a pass saw and counts, and what the run says of it.
-use Rattle.running_passes.specs.Passes.{view}
 use Rattle.running_passes.specs.Sights.{seen_instead}
-use Rattle.running_mutex.specs.Names.{MatchBool, Word, Intent, mutex_table, mutex_model, Coming, MayStep, IsSamePass, counts_of, parties_of, counted, sum_of, no_holds, both_holds, holds_after, AreHoldsIn, none_played, both_played, core_played, played_add_up, IsShare, Told, sights_after}
+use Rattle.running_mutex.specs.Names.{MatchBool, Word, Intent, mutex_table, mutex_model, Coming, MayStep, IsSamePass, view, parties_of, counted, sum_of, no_holds, both_holds, holds_after, AreHoldsIn, none_played, both_played, core_played, played_add_up, IsShare, Told, sights_after}
 use Rattle.running_mutex.proofs.Names.{◌≡◌, ℕ, ◌==◌, Bool, true, false, [], ◌∷◌, refl, ap, sym, ◌∙◌, arith}
 use Rattle.running_model.proofs.OfARun.{of_a_run}
 use Rattle.running_model.proofs.Steps.{told_so}
@@ -19,9 +18,9 @@ pub exchanges : (put : ℕ) → IsTry (λ k. Intent.Exchange k 0 put) (λ s. see
 exchanges put = record { tells = λ w memory. refl; grants = λ call v. refl; sees = λ call v. refl }
 
 module _ (way : Coming ℕ) (put found : ℕ) (p : MutexPass) (may : MayStep mutex_model (Word.State ∷ []) way 0 (λ k. Intent.Exchange k 0 put) (parties_of p)) where
-  pub tries : (q : MutexPass) → IsSamePass p q → IsShare mutex_model both_holds (AreHoldsIn mutex_table) way (parties_of p) found (counts_of p) → Told mutex_model sights_after holds_after way (parties_of p) found (counted p) (counted q) →
+  pub tries : (q : MutexPass) → IsSamePass p q → IsShare mutex_model both_holds (AreHoldsIn mutex_table) way (view p) found → Told mutex_model sights_after holds_after way (parties_of p) found (counted p) (counted q) →
       MatchBool (found == 0) (HasLocked p q) (HasSeenLocked p q)
-  tries q same share told = beside_same (found == 0) (tried mutex_model mutex_is_for_one _ _ (exchanges put) way found (view p) may (view q) share told)
+  tries q same share told = beside_same (found == 0) (tried mutex_model mutex_is_for_one _ _ (exchanges put) way found (view p) may share (view q) told)
     where
       beside_same : (b : Bool) → MatchBool b ((holds_of_pass p ≡ 0) × (counted q ≡ locked (counted p))) (counted q ≡ saw_locked (counted p)) → MatchBool b (HasLocked p q) (HasSeenLocked p q)
       beside_same true is = (same, is.0, is.1)

@@ -40,6 +40,6 @@ counts_more true false t rest begun ended never first second = (omega (arith, fi
 counts_more false true t rest begun ended never first second = (omega (arith, first), omega (arith, second))
 counts_more false false t rest begun ended never first second = (omega (arith, first), omega (arith, second))
 
-pub waits_go_on : GoesOnByActs waiters_model both_waits AreWaitsIn waits_after (λ _ _. Unit {0})
+pub waits_go_on : GoesOnByActs waiters_model both_waits AreWaitsIn (λ _ _. waits_after) (λ _ _. Unit {0})
 waits_go_on call place hold past e found step t rest needs is =
     let more = counts_more (is_in e.act) (is_out e.act) t rest _ _ (not_both e.act) is.begun is.ended in record { begun = more.0; ended = more.1 }

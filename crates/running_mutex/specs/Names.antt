@@ -2,7 +2,7 @@
 pub use Rattle.atomic_table.specs.Table.{State}
 pub use Rattle.running_passes.specs.Answers.{MayAnswerAbort, HasAsked}
 pub use Rattle.running_passes.specs.Parts.{IsWhole}
-pub use Rattle.running_passes.specs.Passes.{IsSamePass, part_of, sights_of}
+pub use Rattle.running_passes.specs.Passes.{IsSamePass, view, part_of, sights_of}
 pub use Rattle.running_passes.specs.Sights.{HasLooked, stale}
 pub use Rattle.running_passes.specs.Views.{looked, wrote, IsCounted, missed, sum_of, view_of}
 pub use Rattle.running_passes.specs.declared.part.Part.{Part}
@@ -10,7 +10,7 @@ pub use Rattle.running_passes.specs.declared.pass.Pass.{Pass}
 pub use Rattle.running_passes.specs.declared.view.View.{View}
 pub use Rattle.running_model.specs.Counts.{HasMoved, WasRefused, HasGivenUp, WasRefusedAt}
 pub use Rattle.running_model.specs.Passes.{counts_of, parties_of, counted, none_played, both_played, PlaysAndCounts, IsOfARun, IsShare, Told, core_played, played_add_up}
-pub use Rattle.running_model.specs.Plays.{HasCalled, IsAt, IsHolding, Coming, Went, WentAlone, act_at, Beginning, MayStep, Continuing, IsStepAt, ComesBy, Led}
+pub use Rattle.running_model.specs.Plays.{HasCalled, IsAt, IsHolding, Coming, Went, act_at, Beginning, MayStep, Continuing, IsStepAt, ComesBy, Led}
 pub use Rattle.running_model.specs.Sees.{sights_after}
 pub use Rattle.running_model.specs.Slots.{Parties, Slot, all_of}
 pub use Rattle.running_model.specs.Tries.{spun, IsRefused, IsGranted, MayTry, IsToWake}

@@ -66,19 +66,22 @@ impl Counts<(), u64> for Waits {
 
     ghost stays = { λ _. waits_stay };
 
-    ghost opens = { λ _. record { begun = refl; ended = refl } };
+    ghost opens = { λ _ _ _. record { begun = refl; ended = refl } };
 }
 
 impl CountsByActs<(), WaitersScript, WaitersPlace, u64> for Waits {
+    ghost use Rattle.std.proofs.Common.{refl};
     ghost use Rattle.running_model.specs.Sees.{sights_after};
     ghost use Rattle.running_mutex.specs.CondRule.{waits_after};
     ghost use Rattle.running_mutex.specs.CondTally.{waits_go_on};
 
-    ghost free = { λ _ _ _ _. tt };
+    ghost free = { λ _ _ _ _ _ _. tt };
 
     ghost sees = { sights_after };
 
-    ghost after = { waits_after };
+    ghost after = { λ _ _ _. waits_after };
+
+    ghost same = { λ _ _ _ _ _ _ _ _. refl };
 
     ghost needs = { λ _ _. Unit {0} };
 

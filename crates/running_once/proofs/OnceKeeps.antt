@@ -1,7 +1,7 @@
 -- What a step makes of what a pass saw and knows, and what the run says of it.
 use Rattle.model_events.specs.Past.{word_in}
 use Rattle.model_events.specs.Rows.{carried_out, value_told}
-use Rattle.running_once.specs.Names.{MatchBool, Word, Intent, MayStep, WentAlone, Coming, View, IsWhole, total, sum_of, once_table, none_played, both_played, core_played, played_add_up, IsSamePass, IsShare, Told, part_of, sights_of, counts_of, parties_of, counted}
+use Rattle.running_once.specs.Names.{MatchBool, Word, Intent, MayStep, Coming, View, total, sum_of, once_table, none_played, both_played, core_played, played_add_up, IsSamePass, view, IsShare, Told, part_of, sights_of, counts_of, parties_of, counted}
 use Rattle.running_once.proofs.Names.{◌≡◌, ◌≢◌, ℕ, ◌+◌, ◌==◌, Bool, true, false, ◌||◌, List, [], ◌∷◌, refl, ap, sym, subst, ◌∙◌, arith}
 use Rattle.std.specs.Prelude.{Some}
 use Rattle.running_passes.specs.Sights.{HasLooked}
@@ -22,23 +22,20 @@ or_true false y e = cc
 
 module _ (way : Coming ℕ) (intent : Word → Intent ℕ) (found : ℕ) (p : PlayedPass) (may : MayStep once_model (Word.State ∷ []) way 0 intent (parties_of p)) where
   -- what a step found, the run says
-  pub says : ((w : Word) (memory : Word → ℕ) → value_told (carried_out (intent w) memory) ≡ Some (memory w)) → IsShare once_model both_runs AreRunsIn way (parties_of p) found (counts_of p) →
-      (IsWhole (part_of p) → WentAlone once_model (λ past. AreRunsIn past (counts_of p)) way (parties_of p) found) → Says (counted p) found
-  says tells share went =
-      let s = share.beside may.call may.place may.hold may.done may.comes in
+  pub says : ((w : Word) (memory : Word → ℕ) → value_told (carried_out (intent w) memory) ≡ Some (memory w)) → IsShare once_model both_runs AreRunsIn way (view p) found → Says (counted p) found
+  says tells s =
       let is = found_there _ _ _ _ intent (parties_of p) may Word.State may.named found tells (word_in once_table s.past) s.found_is in
       let word = s.says.word in let begun = s.says.begun in let one = s.law.law.one in record {
-        known = λ complete. let there = s.says.known (or_true (counts_of p).complete share.rest.complete complete) in omega (arith, is, word, begun, one, there);
+        known = λ complete. let there = s.says.known (or_true (counts_of p).complete s.rest.complete complete) in omega (arith, is, word, begun, one, there);
         range = omega (arith, is, word, begun, one);
         none = λ free. omega (arith, is, word, free);
-        alone = λ whole. let a = went whole may.call may.place may.hold may.done may.comes in
-            found_there _ _ _ _ intent (parties_of p) may Word.State may.named found tells (word_in once_table a.past) a.found_is ∙ a.says.word;
+        alone = λ whole. is ∙ (s.alone whole).1.word;
       }
 
-pub loads : (way : Coming ℕ) (found : ℕ) (p q : PlayedPass) → MayStep once_model (Word.State ∷ []) way 0 (λ k. Intent.Load k) (parties_of p) → IsShare once_model both_runs AreRunsIn way (parties_of p) found (counts_of p) →
-    (IsWhole (part_of p) → WentAlone once_model (λ past. AreRunsIn past (counts_of p)) way (parties_of p) found) → Told once_model sights_after runs_after way (parties_of p) found (counted p) (counted q) → Loaded (counted p) found (counted q)
-loads way found p q may share went told =
-    record { says = says way (λ k. Intent.Load k) found p may (λ w memory. refl) share went; saw = told_so _ _ _ _ (λ k. Intent.Load k) (parties_of p) may Word.State may.named found sights_after runs_after (counted p) (counted q) told }
+pub loads : (way : Coming ℕ) (found : ℕ) (p q : PlayedPass) → MayStep once_model (Word.State ∷ []) way 0 (λ k. Intent.Load k) (parties_of p) → IsShare once_model both_runs AreRunsIn way (view p) found →
+    Told once_model sights_after runs_after way (parties_of p) found (counted p) (counted q) → Loaded (counted p) found (counted q)
+loads way found p q may share told =
+    record { says = says way (λ k. Intent.Load k) found p may (λ w memory. refl) share; saw = told_so _ _ _ _ (λ k. Intent.Load k) (parties_of p) may Word.State may.named found sights_after runs_after (counted p) (counted q) told }
 
 -- an exchange of 0 for 1
 module _ (way : Coming ℕ) (put found : ℕ) (p q : PlayedPass) (may : MayStep once_model (Word.State ∷ []) way 0 (λ k. Intent.Exchange k 0 put) (parties_of p)) (same : IsSamePass p q)
@@ -51,12 +48,11 @@ module _ (way : Coming ℕ) (put found : ℕ) (p q : PlayedPass) (may : MayStep 
         record { more = omega (arith, count); refusing = subst IsTaken (sym (ap (λ (v : View Runs). v.sights.last) is)) other },
       )
 
-  pub begins : IsShare once_model both_runs AreRunsIn way (parties_of p) found (counts_of p) → (IsWhole (part_of p) → WentAlone once_model (λ past. AreRunsIn past (counts_of p)) way (parties_of p) found) →
-      MatchBool (found == 0) (HasBegun p q) (HasOnlyWaited p q)
-  begins share went = by_zero found (HasBegun p q) (HasOnlyWaited p q)
+  pub begins : IsShare once_model both_runs AreRunsIn way (view p) found → MatchBool (found == 0) (HasBegun p q) (HasOnlyWaited p q)
+  begins share = by_zero found (HasBegun p q) (HasOnlyWaited p q)
       (λ free. record {
         same = same;
-        first = (says way (λ k. Intent.Exchange k 0 put) found p may (λ w memory. refl) share went).none free;
+        first = (says way (λ k. Intent.Exchange k 0 put) found p may (λ w memory. refl) share).none free;
         begins = done_so _ _ _ _ 0 put (parties_of p) may Word.State may.named found runs_after (counted p) (counted q) told free;
       })
       (λ other. (waits other).0)

@@ -1,10 +1,10 @@
 -- What this crate reads of others.
 pub use Rattle.running_passes.specs.Parts.{IsWhole, total}
-pub use Rattle.running_passes.specs.Passes.{IsSamePass, part_of, sights_of}
+pub use Rattle.running_passes.specs.Passes.{IsSamePass, view, part_of, sights_of}
 pub use Rattle.running_passes.specs.Views.{view_of, looked, missed, wrote, IsCounted, sum_of}
 pub use Rattle.running_passes.specs.declared.view.View.{View}
 pub use Rattle.running_model.specs.Passes.{none_played, both_played, PlaysAndCounts, IsOfARun, parties_of, counts_of, counted, StaysOnNoWord, GoesOnByActs, IsShare, Told, core_played, played_add_up}
-pub use Rattle.running_model.specs.Plays.{HasCalled, IsAt, HasEnded, Going, Aside, Beginning, MayStep, Went, WentAlone, Coming, ComesBy, Led}
+pub use Rattle.running_model.specs.Plays.{HasCalled, IsAt, HasEnded, Going, Aside, Beginning, MayStep, Went, Coming, ComesBy, Led}
 pub use Rattle.running_model.specs.Slots.{Parties, Slot, all_of}
 pub use Rattle.running_model.specs.declared.played.Played.{Played}
 pub use Rattle.std.specs.Prelude.{◌≡◌, ℕ, true, None, List, ◌≢◌, ◌+◌, ◌*◌, ◌≤◌, Bool, false, ◌||◌, ◌==◌, [], ◌∷◌, length, slice_index, ◌<◌, ◌⊎◌, MatchBool}

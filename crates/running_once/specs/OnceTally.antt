@@ -64,7 +64,7 @@ goes : (place : OncePlace) (call : Call ℕ) (memory : Word → ℕ) (t rest : R
     AreRuns (word_after Word.State act (memory Word.State)) (cond (is_begin act) 1 0 + begins) (cond (is_completion act) 1 0 + completions) (cond (is_end act) 1 0 + ends) (both_runs (runs_after act call t) rest)
 goes place call memory t rest begins completions ends act h1 h2 h3 h4 h5 = grind (arith, nat_tests, eqb-true, eqb-false)
 
-pub runs_go_on : GoesOnByActs once_model both_runs AreRunsIn runs_after runs_needed
+pub runs_go_on : GoesOnByActs once_model both_runs AreRunsIn (λ _ _. runs_after) runs_needed
 runs_go_on call place hold past e found step t rest needs is =
     let law = (once_lawful step.parties (e ∷ past) step.run).law in
     goes place call (word_in once_table past) t rest _ _ _ e.act (step.act ∙ step.found_is) is needs law.one law.state.ended

@@ -83,19 +83,22 @@ impl Counts<(), u64> for Runs {
 
     ghost stays = { λ _. runs_stay };
 
-    ghost opens = { λ _. runs_open };
+    ghost opens = { λ _ _ _. runs_open };
 }
 
 impl CountsByActs<(), OnceScript, OncePlace, u64> for Runs {
+    ghost use Rattle.std.proofs.Common.{refl};
     ghost use Rattle.running_model.specs.Sees.{sights_after};
     ghost use Rattle.running_once.specs.OnceRule.{runs_after, runs_needed};
     ghost use Rattle.running_once.specs.OnceTally.{runs_go_on};
 
-    ghost free = { λ _ _ _ _. tt };
+    ghost free = { λ _ _ _ _ _ _. tt };
 
     ghost sees = { sights_after };
 
-    ghost after = { runs_after };
+    ghost after = { λ _ _ _. runs_after };
+
+    ghost same = { λ _ _ _ _ _ _ _ _. refl };
 
     ghost needs = { runs_needed };
 

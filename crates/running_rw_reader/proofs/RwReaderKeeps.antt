@@ -1,5 +1,5 @@
 -- What a step makes of what a pass saw and counts, and what the run says of it.
-use Rattle.running_rw_reader.specs.Names.{Word, Intent, rw_reader_table, rw_reader_model, Coming, MayStep, WentAlone, View, IsWhole, IsSamePass, part_of, parties_of, counts_of, counted, wrote, sum_of, none_played, both_played, core_played, played_add_up, IsShare, Told, Free, read_holds, write_holds, Locks, same_nothing, tells_same_nothing, held_adds_up, Holds, no_holds, both_holds, read, written, held_after, AreHoldsIn}
+use Rattle.running_rw_reader.specs.Names.{Word, Intent, rw_reader_table, rw_reader_model, Coming, MayStep, View, IsWhole, IsSamePass, view, part_of, parties_of, counts_of, counted, wrote, sum_of, none_played, both_played, core_played, played_add_up, IsShare, Told, Free, read_holds, write_holds, Locks, same_nothing, tells_same_nothing, held_adds_up, Holds, no_holds, both_holds, read, written, held_after, AreHoldsIn}
 use Rattle.running_rw_reader.proofs.Names.{◌≡◌, ◌≢◌, ℕ, ◌+◌, ◌-◌, ◌^◌, ◌<◌, ◌==◌, Bool, cond, [], ◌∷◌, Some, get_or, refl, sym, ap, ◌∙◌, subst, arith, ne_eqb, comes_in, goes_out, takes_over, parts, only_writes}
 use mathlib.Core.Logic.{dite}
 use native.Mathlib.Decide.{ℕ_discrete}
@@ -18,11 +18,7 @@ use Rattle.running_rw_reader.specs.RwReaderSteps.{HoldsAreOfARun, NoHoldBesideAW
 
 -- with what the others count
 abbrev pub Share : Coming ℕ → ℕ → RwReaderPass → Type 0
-Share way found p = IsShare rw_reader_model both_holds (AreHoldsIn rw_reader_table) way (parties_of p) found (counts_of p)
-
--- or where there are no others
-abbrev pub Alone : Coming ℕ → ℕ → RwReaderPass → Type 0
-Alone way found p = IsWhole (part_of p) → WentAlone rw_reader_model (λ past. AreHoldsIn rw_reader_table past (counts_of p)) way (parties_of p) found
+Share way found p = IsShare rw_reader_model both_holds (AreHoldsIn rw_reader_table) way (view p) found
 
 abbrev pub ToldOf : Coming ℕ → ℕ → RwReaderPass → RwReaderPass → Type 0
 ToldOf way found p q = Told rw_reader_model sights_after held_after way (parties_of p) found (counted p) (counted q)
@@ -30,24 +26,23 @@ ToldOf way found p q = Told rw_reader_model sights_after held_after way (parties
 module _ (way : Coming ℕ) (intent : Word → Intent ℕ) (found : ℕ) (p : RwReaderPass) (may : MayStep rw_reader_model (Word.State ∷ []) way 0 intent (parties_of p)) where
   -- the word is what all holds come to
   beside : Share way found p → (rest : Holds) × (w : ℕ) × Locks w tt (both_holds (counts_of p) rest)
-  beside share = let s = share.beside may.call may.place may.hold may.done may.comes in
-      (share.rest, word_in rw_reader_table s.past Word.State, locks _ (holds_of rw_reader_table s.past) (both_holds (counts_of p) share.rest) s.law.law.counts s.says.reads s.says.writes)
+  beside s = (s.rest, word_in rw_reader_table s.past Word.State, locks _ (holds_of rw_reader_table s.past) (both_holds (counts_of p) s.rest) s.law.law.counts s.says.reads s.says.writes)
 
   module _ (tells : (w : Word) (memory : Word → ℕ) → value_told (carried_out (intent w) memory) ≡ Some (memory w)) where
     -- and so is what was found
     found_beside : Share way found p → (rest : Holds) × Locks found tt (both_holds (counts_of p) rest)
-    found_beside share = let s = share.beside may.call may.place may.hold may.done may.comes in (
-      share.rest,
-      locks found (holds_of rw_reader_table s.past) (both_holds (counts_of p) share.rest)
+    found_beside s = (
+      s.rest,
+      locks found (holds_of rw_reader_table s.past) (both_holds (counts_of p) s.rest)
           (subst (λ n. CountsHolds n (holds_of rw_reader_table s.past)) (sym (found_there _ _ _ _ intent (parties_of p) may Word.State may.named found tells (word_in rw_reader_table s.past) s.found_is)) s.law.law.counts) s.says.reads s.says.writes,
     )
 
-    found_alone : Alone way found p → IsWhole (part_of p) → found ≡ word_of (counts_of p)
-    found_alone went whole = let s = went whole may.call may.place may.hold may.done may.comes in
+    found_alone : Share way found p → IsWhole (part_of p) → found ≡ word_of (counts_of p)
+    found_alone s whole = let says = (s.alone whole).1 in
         found_there _ _ _ _ intent (parties_of p) may Word.State may.named found tells (word_in rw_reader_table s.past) s.found_is
-        ∙ (locks _ (holds_of rw_reader_table s.past) (counts_of p) s.law.law.counts s.says.reads s.says.writes).word_is
+        ∙ (locks _ (holds_of rw_reader_table s.past) (counts_of p) s.law.law.counts says.reads says.writes).word_is
 
-pub looks_alone : (way : Coming ℕ) (found : ℕ) (p : RwReaderPass) → MayStep rw_reader_model (Word.State ∷ []) way 0 (λ k. Intent.Load k) (parties_of p) → Alone way found p → IsWhole (part_of p) → found ≡ word_of (counts_of p)
+pub looks_alone : (way : Coming ℕ) (found : ℕ) (p : RwReaderPass) → MayStep rw_reader_model (Word.State ∷ []) way 0 (λ k. Intent.Load k) (parties_of p) → Share way found p → IsWhole (part_of p) → found ≡ word_of (counts_of p)
 looks_alone way found p may = found_alone way (λ k. Intent.Load k) found p may (λ w memory. refl)
 
 pub loads : (way : Coming ℕ) (found : ℕ) (p q : RwReaderPass) → MayStep rw_reader_model (Word.State ∷ []) way 0 (λ k. Intent.Load k) (parties_of p) → IsSamePass p q → ToldOf way found p q → HasSeen found p q
@@ -58,7 +53,7 @@ module _ (way : Coming ℕ) (from to found : ℕ) (p q : RwReaderPass) (may : Ma
   pub misses : IsSamePass p q → ToldOf way found p q → found ≢ from → HasMissed from found p q
   misses same told miss = (same, missed_so _ _ _ _ from to (parties_of p) may Word.State may.named found held_after (counted p) (counted q) told miss)
 
-  pub exchanges_alone : Alone way found p → IsWhole (part_of p) → found ≡ word_of (counts_of p)
+  pub exchanges_alone : Share way found p → IsWhole (part_of p) → found ≡ word_of (counts_of p)
   exchanges_alone = found_alone way (λ k. Intent.Exchange k from to) found p may (λ w memory. refl)
 
   -- for one more: it turned a read hold on, where no write hold stood

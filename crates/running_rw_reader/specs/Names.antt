@@ -4,12 +4,12 @@ pub use Rattle.std.specs.Fn.{Shared}
 pub use Rattle.model_events.specs.declared.WaitAction.{WaitAction}
 pub use Rattle.running_passes.specs.Answers.{HasAsked}
 pub use Rattle.running_passes.specs.Parts.{IsWhole}
-pub use Rattle.running_passes.specs.Passes.{IsSamePass, part_of, sights_of}
+pub use Rattle.running_passes.specs.Passes.{IsSamePass, view, part_of, sights_of}
 pub use Rattle.running_passes.specs.Views.{looked, missed, wrote, sum_of, IsCounted, Updates}
 pub use Rattle.running_passes.specs.declared.view.View.{View}
 pub use Rattle.running_model.specs.Counts.{HasOnlySeen, HasMoved, HasSeen, WasRefused, HasGivenUp, HasMissed, HasDone, WasRefusedAt}
 pub use Rattle.running_model.specs.Passes.{parties_of, counts_of as tally_of, counted, none_played, both_played, PlaysAndCounts, IsOfARun, counts_of, IsShare, Told, core_played, played_add_up}
-pub use Rattle.running_model.specs.Plays.{Coming, IsAt, Leads, IsHolding, HasCalled, Going, Beginning, MayStep, Went, WentAlone, Continuing, IsStepAt, ComesBy, Led, HasEnded}
+pub use Rattle.running_model.specs.Plays.{Coming, IsAt, Leads, IsHolding, HasCalled, Going, Beginning, MayStep, Went, Continuing, IsStepAt, ComesBy, Led, HasEnded}
 pub use Rattle.running_model.specs.Slots.{Slot, Parties, all_of}
 pub use Rattle.running_model.specs.Tries.{Tried, spun, IsRefused, IsGranted, MayTry, IsToWake}
 pub use Rattle.running_model.specs.Words.{IsNamed}

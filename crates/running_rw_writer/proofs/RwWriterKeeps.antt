@@ -1,5 +1,5 @@
 -- What a step makes of what a pass saw and counts, and what the run says of it.
-use Rattle.running_rw_writer.specs.Names.{dite, ℕ_discrete, Word, Call, Intent, RwWriterPlace, Coming, WentAlone, View, Pass, IsWhole, Each, IsSamePass, part_of, sights_of, parties_of, counts_of, counted, view_of, looked, missed, wrote, sum_of, none_played, both_played, core_played, played_add_up, PlaysAndCounts, IsShare, Told, HasSeen, MarkedHolds, read_holds, write_holds, Knows, same_nothing, tells_same_nothing, Holds, no_holds, both_holds, nothing_marked, both_marked, read, no_more_read, written, no_more_written, flagged, marked_sees, marked_after, AreMarkedIn, IsMarkedOrHeld, rw_writer_model}
+use Rattle.running_rw_writer.specs.Names.{dite, ℕ_discrete, Word, Call, Intent, RwWriterPlace, Coming, View, Pass, Each, IsSamePass, view, part_of, sights_of, parties_of, counts_of, counted, view_of, looked, missed, wrote, sum_of, none_played, both_played, core_played, played_add_up, PlaysAndCounts, IsShare, Told, HasSeen, MarkedHolds, read_holds, write_holds, Knows, same_nothing, tells_same_nothing, Holds, no_holds, both_holds, nothing_marked, both_marked, read, no_more_read, written, no_more_written, flagged, marked_sees, marked_after, AreMarkedIn, IsMarkedOrHeld, rw_writer_model}
 use Rattle.running_rw_writer.proofs.Names.{◌≡◌, ◌≢◌, ℕ, ◌+◌, ◌-◌, ◌^◌, ◌<◌, ◌==◌, Some, None, List, [], ◌∷◌, inl, inr, get_or, refl, sym, ap, ◌∙◌, subst, arith, eqb-true, eqb-false}
 use Rattle.std.proofs.lemmas.Bool.Decides.{nat_tests}
 use mathlib.Core.Option as maybe
@@ -21,11 +21,7 @@ use Rattle.running_rw_writer.specs.RwWriterSteps.{PlayedRwWriter, all_in, Grants
 
 -- with what the others count
 abbrev pub Share : Coming ℕ → ℕ → Pass PlayedRwWriter → Type 0
-Share way found p = IsShare rw_writer_model both_marked AreMarkedIn way (parties_of p) found (counts_of p)
-
--- or where there are no others
-abbrev pub Alone : Coming ℕ → ℕ → Pass PlayedRwWriter → Type 0
-Alone way found p = IsWhole (part_of p) → WentAlone rw_writer_model (λ past. AreMarkedIn past (counts_of p)) way (parties_of p) found
+Share way found p = IsShare rw_writer_model both_marked AreMarkedIn way (view p) found
 
 abbrev pub ToldOf : Coming ℕ → ℕ → Pass PlayedRwWriter → Pass PlayedRwWriter → Type 0
 ToldOf way found p q = Told rw_writer_model marked_sees marked_after way (parties_of p) found (counted p) (counted q)
@@ -38,21 +34,20 @@ word_alone w t down is = omega (arith, is.word_is, is.flagged, down)
 module _ (way : Coming ℕ) (intent : Word → Intent ℕ) (found : ℕ) (p : Pass PlayedRwWriter) (may : TableHas way 0 intent (parties_of p)) where
   -- the word is what all holds come to, and the mark
   beside : Share way found p → (rest : MarkedHolds) × (w : ℕ) × IsMarkedOrHeld w (both_marked (counts_of p) rest)
-  beside share = let s = share.beside may.call may.place may.hold may.done may.comes in
-      (share.rest, word_in rw_writer_table s.past Word.State, held_in s.past (both_marked (counts_of p) share.rest) s.law s.says)
+  beside s = (s.rest, word_in rw_writer_table s.past Word.State, held_in s.past (both_marked (counts_of p) s.rest) s.law s.says)
 
   module _ (tells : (w : Word) (memory : Word → ℕ) → value_told (carried_out (intent w) memory) ≡ Some (memory w)) where
     -- and so is what was found
     found_beside : Share way found p → (rest : MarkedHolds) × IsMarkedOrHeld found (both_marked (counts_of p) rest)
-    found_beside share = let s = share.beside may.call may.place may.hold may.done may.comes in (
-      share.rest,
-      subst (λ n. IsMarkedOrHeld n (both_marked (counts_of p) share.rest)) (sym (found_there _ _ _ _ intent (parties_of p) may Word.State may.named found tells (word_in rw_writer_table s.past) s.found_is))
-          (held_in s.past (both_marked (counts_of p) share.rest) s.law s.says),
+    found_beside s = (
+      s.rest,
+      subst (λ n. IsMarkedOrHeld n (both_marked (counts_of p) s.rest)) (sym (found_there _ _ _ _ intent (parties_of p) may Word.State may.named found tells (word_in rw_writer_table s.past) s.found_is))
+          (held_in s.past (both_marked (counts_of p) s.rest) s.law s.says),
     )
 
-    found_alone : Alone way found p → SaysAlone (counted p) found
-    found_alone went only = let s = went only.0 may.call may.place may.hold may.done may.comes in
-        found_there _ _ _ _ intent (parties_of p) may Word.State may.named found tells (word_in rw_writer_table s.past) s.found_is ∙ word_alone _ (counts_of p) only.1 (held_in s.past (counts_of p) s.law s.says)
+    found_alone : Share way found p → SaysAlone (counted p) found
+    found_alone s only =
+        found_there _ _ _ _ intent (parties_of p) may Word.State may.named found tells (word_in rw_writer_table s.past) s.found_is ∙ word_alone _ (counts_of p) only.1 (held_in s.past (counts_of p) s.law (s.alone only.0).1)
 
 -- a load by a reader, and by a writer
 
@@ -60,7 +55,7 @@ pub looks : (way : Coming ℕ) (found : ℕ) (p q : Pass PlayedRwWriter) → May
 looks way found p q (inl may) same told = (same, told Call.TryReadLock RwWriterPlace.TryReadLook None may.done may.comes)
 looks way found p q (inr may) same told = (same, told Call.ReadLock (RwWriterPlace.ReadLook may.patience) None may.done may.comes)
 
-pub looks_alone : (way : Coming ℕ) (found : ℕ) (p : Pass PlayedRwWriter) → TableHas way 0 (λ k. Intent.Load k) (parties_of p) → Alone way found p → SaysAlone (counted p) found
+pub looks_alone : (way : Coming ℕ) (found : ℕ) (p : Pass PlayedRwWriter) → TableHas way 0 (λ k. Intent.Load k) (parties_of p) → Share way found p → SaysAlone (counted p) found
 looks_alone way found p may = found_alone way (λ k. Intent.Load k) found p may (λ w memory. refl)
 
 -- An exchange of a value for another.
@@ -96,21 +91,21 @@ module _ (way : Coming ℕ) (from to found : ℕ) (p q : Pass PlayedRwWriter) (m
   pub exchanges : Made may.call from to found (counted p) (counted q)
   exchanges = told_so _ _ _ _ (λ k. Intent.Exchange k from to) (parties_of p) may Word.State may.named found marked_sees marked_after (counted p) (counted q) told
 
-  pub exchanges_alone : Alone way found p → SaysAlone (counted p) found
+  pub exchanges_alone : Share way found p → SaysAlone (counted p) found
   exchanges_alone = found_alone way (λ k. Intent.Exchange k from to) found p may (λ w memory. refl)
 
   module _ (share : Share way found p) where
-    pub writers_in : Alone way found p → from < 2 → to ≡ 2 ^ 64 - 1 → WriterIn from (counted p) found (counted q)
-    writers_in alone free full =
+    pub writers_in : from < 2 → to ≡ 2 ^ 64 - 1 → WriterIn from (counted p) found (counted q)
+    writers_in free full =
         let made = made_write may.call from to found (counted p) (counted q) free full exchanges in
         let all = found_beside way (λ k. Intent.Exchange k from to) found p may (λ w memory. refl) share in
-        record { done = λ hit. (writes_so found (counts_of p) all.0 all.1 (omega (arith, hit, free)), made.0 hit); failed = made.1; alone = exchanges_alone alone }
+        record { done = λ hit. (writes_so found (counts_of p) all.0 all.1 (omega (arith, hit, free)), made.0 hit); failed = made.1; alone = exchanges_alone share }
 
     -- a read hold is turned on from the value found
-    pub enters : IsOpen from → Alone way found p → found ≡ from → EntersToRead (part_of p) (counts_of p) (read (counts_of p)) from
-    enters room alone hit =
+    pub enters : IsOpen from → found ≡ from → EntersToRead (part_of p) (counts_of p) (read (counts_of p)) from
+    enters room hit =
         let all = found_beside way (λ k. Intent.Exchange k from to) found p may (λ w memory. refl) share in
-        enters_so (counted p) from found all.0 room hit all.1 (exchanges_alone alone)
+        enters_so (counted p) from found all.0 room hit all.1 (exchanges_alone share)
 
 -- a subtraction of 2, by a pass with a read hold
 

@@ -11,7 +11,7 @@ pub use Rattle.running_passes.specs.declared.view.View.{View}
 pub use Rattle.running_model.specs.Counts.{HasOnlySeen, HasMoved, HasSeen}
 pub use Rattle.running_model.specs.Holding.{is_holding}
 pub use Rattle.running_model.specs.Passes.{parties_of, counts_of as tally_of, counted, none_played, both_played, PlaysAndCounts, IsOfARun, counts_of, core_played, played_add_up, IsShare, Told}
-pub use Rattle.running_model.specs.Plays.{WentAlone, Coming, Answered, ComesBy, IsHolding, Leads, HasEnded, MayStep, Went, HasCalled, Going, Beginning, Continuing, Led}
+pub use Rattle.running_model.specs.Plays.{Coming, Answered, ComesBy, IsHolding, Leads, HasEnded, MayStep, Went, HasCalled, Going, Beginning, Continuing, Led}
 pub use Rattle.running_model.specs.Slots.{Slot, Parties, all_of}
 pub use Rattle.running_model.specs.Tries.{spun, IsGranted, StandsToWait}
 pub use Rattle.running_model.specs.Words.{IsNamed, IsStepOn}

@@ -1,5 +1,5 @@
 -- What a step makes of what a pass saw and counts; and where no other pass is left, the word is what its tally comes to.
-use Rattle.running_semaphore.specs.Names.{Word, Call, Intent, carried_out, value_told, SemaphorePlace, semaphore_table, View, looked, missed, wrote, sum_of, Parties, sights_after, Coming, Beginning, MayStep, WentAlone, played, none_played, both_played, PlaysAndCounts, Told, SemaphoreScript, Permits, no_permits, both_permits, value_of, permits_after, ArePermitsOf, semaphore_model}
+use Rattle.running_semaphore.specs.Names.{Word, Call, Intent, carried_out, value_told, SemaphorePlace, semaphore_table, View, looked, missed, wrote, sum_of, Parties, sights_after, Coming, Beginning, MayStep, IsWhole, IsShare, played, none_played, both_played, PlaysAndCounts, Told, SemaphoreScript, Permits, no_permits, both_permits, value_of, permits_after, ArePermitsOf, semaphore_model}
 use Rattle.running_semaphore.proofs.Names.{◌≡◌, ◌≢◌, ℕ, ◌+◌, ◌-◌, ◌%◌, ◌^◌, ◌<◌, ◌≤◌, List, [], ◌∷◌, ap, sym, subst, ◌∙◌, refl, Some, arith}
 use Rattle.model_events.specs.declared.event.Act.{Act}
 use Rattle.model_events.specs.declared.event.Event.{Event}
@@ -46,22 +46,23 @@ module _ (initial : ℕ) where
       record { value_is = left.0 ∙ sym (ap (λ (p : ℕ × ℕ). (p.0 - p.1) % 2 ^ 64) (λ i. (is.given i, is.taken i))); enough = omega (arith, is.given, is.taken, left.1) }
 
   -- and so do the calls find it
-  module _ (fits : initial < 2 ^ 64) (t : Permits) where
-    left_there : (intent : Word → Intent ℕ) (way : Coming ℕ) (p : Parties ℕ) (found : ℕ) → ((w : Word) (memory : Word → ℕ) → value_told (carried_out (intent w) memory) ≡ Some (memory w)) →
-        MayStep (semaphore_model initial) (Word.State ∷ []) way 0 intent p → WentAlone (semaphore_model initial) (λ past. ArePermitsOf initial past t) way p found → Leaves t found
-    left_there intent way p found tells may went =
-        let s = went may.call may.place may.hold may.done may.comes in
-        subst (Leaves t) (sym (found_there _ _ _ _ intent p may Word.State may.named found tells (word_in (semaphore_table initial) s.past) s.found_is)) (leaves fits s.parties s.past t s.run s.says)
+  module _ (fits : initial < 2 ^ 64) where
+    left_there : (intent : Word → Intent ℕ) (way : Coming ℕ) (v : View PlayedSemaphore) (found : ℕ) → ((w : Word) (memory : Word → ℕ) → value_told (carried_out (intent w) memory) ≡ Some (memory w)) →
+        MayStep (semaphore_model initial) (Word.State ∷ []) way 0 intent v.tally.parties → IsShare (semaphore_model initial) both_permits (ArePermitsOf initial) way v found → IsWhole v.part → Leaves v.tally.counts found
+    left_there intent way v found tells may s whole =
+        subst (Leaves v.tally.counts) (sym (found_there _ _ _ _ intent v.tally.parties may Word.State may.named found tells (word_in (semaphore_table initial) s.past) s.found_is))
+        (leaves fits s.parties s.past v.tally.counts s.run (s.alone whole).1)
 
-    pub loaded_there : (way : Coming ℕ) (p : Parties ℕ) (found : ℕ) → MayStep (semaphore_model initial) (Word.State ∷ []) way 0 (λ w. Intent.Load w) p → WentAlone (semaphore_model initial) (λ past. ArePermitsOf initial past t) way p found → Leaves t found
-    loaded_there way p found = left_there (λ w. Intent.Load w) way p found (λ w memory. refl)
+    pub loaded_there : (way : Coming ℕ) (v : View PlayedSemaphore) (found : ℕ) → MayStep (semaphore_model initial) (Word.State ∷ []) way 0 (λ w. Intent.Load w) v.tally.parties →
+        IsShare (semaphore_model initial) both_permits (ArePermitsOf initial) way v found → IsWhole v.part → Leaves v.tally.counts found
+    loaded_there way v found = left_there (λ w. Intent.Load w) way v found (λ w memory. refl)
 
-    pub exchanged_there : (old new : ℕ) (way : Coming ℕ) (p : Parties ℕ) (found : ℕ) → MayStep (semaphore_model initial) (Word.State ∷ []) way 0 (λ w. Intent.Exchange w old new) p →
-        WentAlone (semaphore_model initial) (λ past. ArePermitsOf initial past t) way p found → Leaves t found
-    exchanged_there old new way p found = left_there (λ w. Intent.Exchange w old new) way p found (λ w memory. refl)
+    pub exchanged_there : (old new : ℕ) (way : Coming ℕ) (v : View PlayedSemaphore) (found : ℕ) → MayStep (semaphore_model initial) (Word.State ∷ []) way 0 (λ w. Intent.Exchange w old new) v.tally.parties →
+        IsShare (semaphore_model initial) both_permits (ArePermitsOf initial) way v found → IsWhole v.part → Leaves v.tally.counts found
+    exchanged_there old new way v found = left_there (λ w. Intent.Exchange w old new) way v found (λ w memory. refl)
 
-    pub closed_there : (p : Parties ℕ) (found : ℕ) → HasClosed {S = Unit {0}} (PlaysAndCounts {M = SemaphoreScript} {Q = SemaphorePlace} (semaphore_model initial) (Word.State ∷ []) (λ _ _ _. Unit {0}) (ArePermitsOf initial)) (played p t) 0 found → Leaves t found
-    closed_there p found closed = let r = closed.rule in
+    pub closed_there : (t : Permits) (p : Parties ℕ) (found : ℕ) → HasClosed {S = Unit {0}} (PlaysAndCounts {M = SemaphoreScript} {Q = SemaphorePlace} (semaphore_model initial) (Word.State ∷ []) (λ _ _ _. Unit {0}) (ArePermitsOf initial)) (played p t) 0 found → Leaves t found
+    closed_there t p found closed = let r = closed.rule in
         subst (Leaves t) (sym (sym closed.here ∙ hold_at (Word.State ∷ []) closed.words 0 Word.State _ r.played.hold refl)) (leaves fits r.played.parties r.played.past t r.played.run r.follows)
 
 -- whenever the rule holds

@@ -1,6 +1,6 @@
 -- What a step of a lock with one holder at most tells of the pass that makes it.
-use Rattle.running_tallies.specs.Names.{◌==◌, ◌≤◌, true, length, Word, Call, Event, IsPast, holds_of, Model}
-use Rattle.running_tallies.proofs.Names.{◌≡◌, ℕ, List, [], ◌∷◌, refl, ap, ◌∙◌, subst, arith}
+use Rattle.running_tallies.specs.Names.{◌==◌, ◌≤◌, true, length, Word, Call, holds_of, Model}
+use Rattle.running_tallies.proofs.Names.{◌≡◌, ℕ, [], ◌∷◌, refl, ap, ◌∙◌, subst, arith}
 use Rattle.std.specs.Prelude.{Some, MatchBool}
 use Rattle.model_events.specs.Past.{word_in}
 use Rattle.model_events.specs.Rows.{carried_out, value_told}
@@ -10,7 +10,8 @@ use Rattle.running_passes.specs.declared.part.Sights.{Sights}
 use Rattle.running_passes.specs.declared.view.View.{View}
 use Rattle.running_model.specs.declared.played.Played.{Played}
 use Rattle.running_model.specs.Passes.{IsShare, Told, counted_in}
-use Rattle.running_model.specs.Plays.{Coming, MayStep, WentAlone, act_at}
+use Rattle.running_passes.specs.Parts.{IsWhole}
+use Rattle.running_model.specs.Plays.{Coming, MayStep}
 use Rattle.running_model.specs.Sees.{sights_after}
 use Rattle.running_model.proofs.Steps.{told_so, found_there, by_zero}
 use Rattle.running_tallies.specs.declared.mutex.Holds.{Holds}
@@ -29,29 +30,25 @@ pub record IsTry (intent : Word → Intent ℕ) (see : Sights → Sights) : Type
 
 module _ {M Q P : Type 0} (m : Model ℕ P) (lock : IsForOne m) (intent : Word → Intent ℕ) (see : Sights → Sights) (is_try : IsTry intent see) (way : Coming ℕ) (found : ℕ) (v : View (Played M Q ℕ Holds))
     (may : MayStep m (Word.State ∷ []) way 0 intent v.tally.parties) where
-  -- what it found is how many holds stood
-  held_there : (parties : ℕ) (past : List (Event ℕ)) → IsPast m.arithmetic m.table parties past → act_at m may.place may.hold found ≡ carried_out (m.table.intent may.place may.hold) (word_in m.table past) →
-      (found ≡ length (holds_of m.table past)) × (found ≤ 1)
-  held_there parties past run so =
-      let is = found_there m (Word.State ∷ []) way 0 intent v.tally.parties may Word.State may.named found is_try.tells (word_in m.table past) so in
-      let held = word_is_held m lock parties past run in (is ∙ held.0, omega (arith, is, held.1))
+  module _ (s : IsShare m both_holds (AreHoldsIn m.table) way v found) where
+    -- what it found is how many holds stood
+    held_there : (found ≡ length (holds_of m.table s.past)) × (found ≤ 1)
+    held_there =
+        let is = found_there m (Word.State ∷ []) way 0 intent v.tally.parties may Word.State may.named found is_try.tells (word_in m.table s.past) s.found_is in
+        let held = word_is_held m lock s.parties s.past s.run in (is ∙ held.0, omega (arith, is, held.1))
 
-  -- So where it found 0, the pass's own hold was off.
-  pub tried : (w : View (Played M Q ℕ Holds)) → IsShare m both_holds (AreHoldsIn m.table) way v.tally.parties found v.tally.counts → Told m sights_after holds_after way v.tally.parties found (counted_in v) (counted_in w) →
-      MatchBool (found == 0) ((v.tally.counts.holds ≡ 0) × (counted_in w ≡ wrote (counted_in v) (granted v.tally.counts))) (counted_in w ≡ view_of v.part (see v.sights) v.tally.counts)
-  tried w share told =
-      let s = share.beside may.call may.place may.hold may.done may.comes in
-      let held = held_there s.parties s.past s.run s.found_is in
-      let all = s.says.holds in
-      let so : counted_in w ≡ made_by intent may.call found (counted_in v) = told_so m (Word.State ∷ []) way 0 intent v.tally.parties may Word.State may.named found sights_after holds_after (counted_in v) (counted_in w) told in
-      by_zero found _ _
-      (λ free. (omega (arith, all, held.0, free), so ∙ ap (λ n. made_by intent may.call n (counted_in v)) free ∙ is_try.grants may.call (counted_in v)))
-      (λ other. let is_1 : found ≡ 1 = omega (arith, held.1, other) in so ∙ ap (λ n. made_by intent may.call n (counted_in v)) is_1 ∙ is_try.sees may.call (counted_in v))
+    -- So where it found 0, the pass's own hold was off.
+    pub tried : (w : View (Played M Q ℕ Holds)) → Told m sights_after holds_after way v.tally.parties found (counted_in v) (counted_in w) →
+        MatchBool (found == 0) ((v.tally.counts.holds ≡ 0) × (counted_in w ≡ wrote (counted_in v) (granted v.tally.counts))) (counted_in w ≡ view_of v.part (see v.sights) v.tally.counts)
+    tried w told =
+        let all = s.says.holds in
+        let so : counted_in w ≡ made_by intent may.call found (counted_in v) = told_so m (Word.State ∷ []) way 0 intent v.tally.parties may Word.State may.named found sights_after holds_after (counted_in v) (counted_in w) told in
+        by_zero found _ _
+        (λ free. (omega (arith, all, held_there.0, free), so ∙ ap (λ n. made_by intent may.call n (counted_in v)) free ∙ is_try.grants may.call (counted_in v)))
+        (λ other. let is_1 : found ≡ 1 = omega (arith, held_there.1, other) in so ∙ ap (λ n. made_by intent may.call n (counted_in v)) is_1 ∙ is_try.sees may.call (counted_in v))
 
-  -- where no other pass is left, only its own can be on
-  pub tried_alone : WentAlone m (λ past. AreHoldsIn m.table past v.tally.counts) way v.tally.parties found → v.tally.counts.holds ≡ 0 → (found == 0) ≡ true
-  tried_alone went off =
-      let s = went may.call may.place may.hold may.done may.comes in
-      let held = held_there s.parties s.past s.run s.found_is in
-      let all = s.says.holds in
-      subst (λ (n : ℕ). (n == 0) ≡ true) (let zero : 0 ≡ found = omega (arith, all, held.0, off) in zero) refl
+    -- where no other pass is left, only its own can be on
+    pub tried_alone : IsWhole v.part → v.tally.counts.holds ≡ 0 → (found == 0) ≡ true
+    tried_alone whole off =
+        let all = (s.alone whole).1.holds in
+        subst (λ (n : ℕ). (n == 0) ≡ true) (let zero : 0 ≡ found = omega (arith, all, held_there.0, off) in zero) refl

@@ -1,8 +1,23 @@
--- What the passes of a barrier count and know adds up, and acts on no word are no arrivals.
-use Rattle.std.proofs.Common.{◌≡◌, ℕ, ◌+◌, Bool, false, cond, max, List, refl, ap, ◌∙◌, arith}
-use Rattle.running_tallies.specs.Names.{IsTally, Act, is_arrival, IsOnNoWord, on_no_word, StaysOnNoWord}
-use Rattle.running_tallies.specs.Counts.{both_counts, counts_swap, counts_group}
-use Rattle.running_tallies.specs.BarrierRule.{rounds, no_rounds, both_rounds, known_rounds, AreArrivalsIn}
+-- What the passes of a barrier count and know adds up, and follows the run.
+use Rattle.std.proofs.Common.{◌≡◌, ◌≢◌, ℕ, zero, suc, ◌+◌, ◌*◌, ◌/◌, ◌%◌, ◌^◌, ◌<◌, ◌≤◌, ◌==◌, Bool, true, false, cond, max, List, [], ◌∷◌, refl, sym, ap, subst, ◌∙◌, arith, add-mul}
+use Rattle.std.proofs.Math.Nat.{zero-div, zero-mod}
+use Rattle.std.proofs.lemmas.Bool.{eqb-true, eqb-false}
+use Rattle.std.proofs.lemmas.List.Sums.{sum_by-cons}
+use Rattle.std.proofs.lemmas.Nat.{div-add-mod', div-mul-add, mod-mul-add, mod_below}
+use Rattle.std.specs.List.{sum}
+use mathlib.Core.Logic.{dite}
+use native.Mathlib.Decide.{ℕ_discrete}
+use Rattle.model_events.specs.Past.{word_in}
+use Rattle.model_events.specs.Rows.{carried_out}
+use Rattle.model_barrier.specs.Table.{barrier_table, barrier_intent}
+use Rattle.model_barrier.specs.declared.BarrierPlace.{BarrierPlace}
+use Rattle.running_tallies.specs.Names.{IsTally, Word, Call, Act, Event, is_arrival, arrivals_in, epoch_of, count_of, CountsArrivals, u64_arithmetic, IsOnNoWord, on_no_word, StaysOnNoWord, SameOnNoWord, GoesOnByActs}
+use Rattle.running_tallies.specs.declared.barrier.Rounds.{Rounds}
+use Rattle.running_tallies.specs.Counts.{one_more, both_counts, counts_swap, counts_group}
+use Rattle.running_tallies.specs.CountLaws.{more_in_both, more_here, more_elsewhere}
+use Rattle.model_barrier.proofs.Laws.{keeps_barrier}
+use Rattle.running_tallies.specs.BarrierScript.{barrier_model}
+use Rattle.running_tallies.specs.BarrierRule.{rounds, no_rounds, both_rounds, known_rounds, in_round, reaching, opens_by, arrived, rounds_with, rounds_after, AreRounds, AreRoundsIn}
 
 max_group : (a b c : ℕ) → max (max a b) c ≡ max a (max b c)
 max_group a b c = omega arith
@@ -21,8 +36,140 @@ rounds_add_up = record {
   copy = λ t. same_rounds t.arrivals t.arrivals (max t.reached t.reached) t.reached (0 + t.opened) t.opened refl (omega arith) (omega arith);
 }
 
+-- the arrivals of a list of counts
+
+pub sum_cons : (x : ℕ) (xs : List ℕ) → sum (x ∷ xs) ≡ x + sum xs
+sum_cons x xs = sum_by-cons (λ (y : ℕ). y) x xs
+
+pub sum_more : (round : ℕ) (xs : List ℕ) → sum (one_more round xs) ≡ sum xs + 1
+sum_more zero [] = refl
+sum_more zero (x ∷ xs) = let a = sum_cons (x + 1) xs in let b = sum_cons x xs in omega arith
+sum_more (suc round) [] = let a = sum_cons 0 (one_more round []) in let b = sum_more round [] in omega arith
+sum_more (suc round) (x ∷ xs) = let a = sum_cons x (one_more round xs) in let b = sum_cons x xs in let c = sum_more round xs in omega arith
+
+-- acts on no word
+
 no_arrival : (act : Act ℕ) → IsOnNoWord act → is_arrival act ≡ false
 no_arrival = on_no_word (λ (a : Act ℕ). is_arrival a ≡ false) (λ call. refl) (λ action. refl) (λ choice. refl) (λ wake. refl) refl (λ value. refl)
 
-pub arrivals_stay : StaysOnNoWord AreArrivalsIn
-arrivals_stay past e counts quiet is = let none : ◌≡◌ {A = ℕ} (cond (is_arrival e.act) 1 0) 0 = ap (λ (b : Bool). cond b 1 0) (no_arrival e.act quiet) in is ∙ omega (arith, none)
+-- they are no arrivals
+same_arrivals : (past : List (Event ℕ)) (e : Event ℕ) → IsOnNoWord e.act → arrivals_in (e ∷ past) ≡ arrivals_in past
+same_arrivals past e quiet = let none : ◌≡◌ {A = ℕ} (cond (is_arrival e.act) 1 0) 0 = ap (λ (b : Bool). cond b 1 0) (no_arrival e.act quiet) in omega (arith, none)
+
+pub rounds_stay : (n : ℕ) → StaysOnNoWord (AreRoundsIn n)
+rounds_stay n past e counts quiet is = subst (λ (a : ℕ). AreRounds n a counts) (sym (same_arrivals past e quiet)) is
+
+-- and each act makes the same after them
+pub rounds_same : (n : ℕ) → SameOnNoWord {P = BarrierPlace} (λ past _. rounds_after n past)
+rounds_same n past e place act call counts quiet = ap (λ (a : ℕ). rounds_with n (a / n) act counts) (same_arrivals past e quiet)
+
+pub no_rounds_first : (n : ℕ) → AreRoundsIn n [] no_rounds
+no_rounds_first n = record {
+  all = refl;
+  opened = sym (zero-div n);
+  full = λ round below. absurd (omega (arith, zero-div n, below));
+  filling = none_in (0 / n) ∙ sym (zero-mod n);
+  later = λ round above. none_in round;
+  known = omega arith;
+}
+  where
+    none_in : (round : ℕ) → in_round round [] ≡ 0
+    none_in round = refl
+
+-- an arrival more
+
+divided : (n arrivals rounds rest : ℕ) → rest < n → rounds * n + rest ≡ arrivals → (arrivals / n ≡ rounds) × (arrivals % n ≡ rest)
+divided n arrivals rounds rest below is = (ap (λ a. a / n) (sym is) ∙ div-mul-add rounds n rest below, ap (λ a. a % n) (sym is) ∙ mod-mul-add rounds n rest below)
+
+-- it opens the next round, or not
+pub by_count : (n from : ℕ) (A : Type 0) → (count_of from + 1 ≡ n → opens_by n from ≡ 1 → A) → (count_of from + 1 ≢ n → opens_by n from ≡ 0 → A) → A
+by_count n from A last early = by_test (count_of from + 1 == n) refl
+  where
+    by_test : (b : Bool) → (count_of from + 1 == n) ≡ b → A
+    by_test true test = last (eqb-true _ _ test) (ap (λ (b : Bool). cond b 1 0) test)
+    by_test false test = early (eqb-false _ _ test) (ap (λ (b : Bool). cond b 1 0) test)
+
+module _ (n a : ℕ) where
+  -- the same arrivals, where the rounds that are known to be open are
+  pub again : (s u : Rounds) → AreRounds n a s → u.arrivals ≡ s.arrivals → u.opened ≡ s.opened → u.reached ≤ a / n → AreRounds n a u
+  again s u is counts opens known =
+      let so : AreRounds n a (rounds s.arrivals u.reached s.opened) = record { all = is.all; opened = is.opened; full = is.full; filling = is.filling; later = is.later; known = known } in
+      subst (AreRounds n a) (λ i. rounds (sym counts i) u.reached (sym opens i)) so
+
+  pub arrives : (from : ℕ) (t : Rounds) → 0 < n → count_of from ≡ a % n → AreRounds n a t → AreRounds n (1 + a) (arrived n from (a / n) t)
+  arrives from t some count is = by_count n from (AreRounds n (1 + a) (arrived n from (a / n) t))
+      (λ fills one. let next = divided n (1 + a) (a / n + 1) 0 some (omega (arith, add-mul (a / n) 1 n, div-add-mod' a n, count, fills)) in let quotient = next.0 in record {
+        all = omega (arith, more, is.all);
+        opened = omega (arith, quotient, one, is.opened);
+        full = λ round below. dite (ℕ_discrete round (a / n))
+            (λ same. ap (λ (r : ℕ). in_round r (one_more (a / n) t.arrivals)) same ∙ (let e : in_round (a / n) (one_more (a / n) t.arrivals) ≡ n = omega (arith, here, is.filling, count, fills) in e))
+            (λ other. more_elsewhere (a / n) round t.arrivals other ∙ is.full round (omega (arith, quotient, below, other)));
+        filling = ap (λ (r : ℕ). in_round r (one_more (a / n) t.arrivals)) quotient ∙ more_elsewhere (a / n) (a / n + 1) t.arrivals (λ same. omega (arith, same)) ∙ is.later (a / n + 1) (omega arith) ∙ sym next.1;
+        later = λ round above. more_elsewhere (a / n) round t.arrivals (λ same. omega (arith, same, above, quotient)) ∙ is.later round (omega (arith, above, quotient));
+        known = omega (arith, one, quotient);
+      })
+      (λ early none. let room : a % n + 1 < n = omega (arith, mod_below a n some, count, early) in
+      let next = divided n (1 + a) (a / n) (a % n + 1) room (omega (arith, div-add-mod' a n)) in let quotient = next.0 in record {
+        all = omega (arith, more, is.all);
+        opened = omega (arith, quotient, none, is.opened);
+        full = λ round below. more_elsewhere (a / n) round t.arrivals (λ same. omega (arith, same, below, quotient)) ∙ is.full round (omega (arith, below, quotient));
+        filling = ap (λ (r : ℕ). in_round r (one_more (a / n) t.arrivals)) quotient ∙ (let e : in_round (a / n) (one_more (a / n) t.arrivals) ≡ (1 + a) % n = omega (arith, here, is.filling, next.1) in e);
+        later = λ round above. more_elsewhere (a / n) round t.arrivals (λ same. omega (arith, same, above, quotient)) ∙ is.later round (omega (arith, above, quotient));
+        known = omega (arith, none, quotient);
+      })
+    where
+      more : sum (one_more (a / n) t.arrivals) ≡ sum t.arrivals + 1
+      more = sum_more (a / n) t.arrivals
+
+      here : in_round (a / n) (one_more (a / n) t.arrivals) ≡ in_round (a / n) t.arrivals + 1
+      here = more_here (a / n) t.arrivals
+
+-- what the word says of the arrivals, also where there are none
+
+unpacked : (quotient rest w : ℕ) → rest < 2 ^ 32 → w ≡ quotient % 2 ^ 32 * 2 ^ 32 + rest → (count_of w ≡ rest) × (epoch_of w ≡ quotient % 2 ^ 32)
+unpacked quotient rest w below is = (omega (arith, below, is), omega (arith, below, is))
+
+pub word_says : (n a w : ℕ) → n < 2 ^ 32 → CountsArrivals n a w → (n ≡ 0 → a ≡ 0) → (count_of w ≡ a % n) × (epoch_of w ≡ a / n % 2 ^ 32)
+word_says n a w fits counts nobody = unpacked (a / n) (a % n) w below counts
+  where
+    below : a % n < 2 ^ 32
+    below = dite (ℕ_discrete n 0) (λ nil. let zeros : a % n ≡ 0 = ap (λ (b : ℕ). b % n) (nobody nil) ∙ zero-mod n in omega (arith, zeros)) (λ some. omega (arith, mod_below a n (omega (arith, some)), fits))
+
+-- each step of a barrier, by its place
+module _ (n : ℕ) (past : List (Event ℕ)) (call : Call ℕ) (t rest : Rounds) where
+  abbrev a : ℕ
+  a = arrivals_in past
+
+  abbrev Goes : Act ℕ → Type 0
+  Goes act = (n ≡ 0 → cond (is_arrival act) 1 0 + a ≡ 0) → AreRounds n (cond (is_arrival act) 1 0 + a) (both_rounds (rounds_after n past act call t) rest)
+
+  module _ (fits : n < 2 ^ 32) (memory : Word → ℕ) (counts : CountsArrivals n a (memory Word.State)) (nobody : n ≡ 0 → a ≡ 0) (is : AreRounds n a (both_rounds t rest)) where
+    not_more : (u : Rounds) → AreRounds n a u → AreRounds n (0 + a) u
+    not_more u = subst (λ (b : ℕ). AreRounds n b u) (let same : a ≡ 0 + a = omega arith in same)
+
+    sees : AreRounds n (0 + a) (both_rounds (reaching (a / n) t) rest)
+    sees = let known = is.known in not_more (both_rounds (reaching (a / n) t) rest) (again n a (both_rounds t rest) (both_rounds (reaching (a / n) t) rest) is refl refl (omega (arith, known)))
+
+    exchanged : (from to : ℕ) (done : Bool) → (memory Word.State == from) ≡ done → Goes (Act.Exchange Word.State from to (memory Word.State) done)
+    exchanged from to false test nil = sees
+    exchanged from to true test nil =
+        let some : 0 < n = dite (ℕ_discrete n 0) (λ none_come. absurd (let e = nil none_come in omega (arith, e))) (λ other. omega (arith, other)) in
+        let count : count_of from ≡ a % n = ap count_of (sym (eqb-true (memory Word.State) from test)) ∙ (word_says n a (memory Word.State) fits counts nobody).0 in
+        let all = arrives n a from (both_rounds t rest) some count is in
+        let now = all.known in let known = is.known in
+        again n (1 + a) (arrived n from (a / n) (both_rounds t rest)) (both_rounds (arrived n from (a / n) t) rest) all (more_in_both (a / n) t.arrivals rest.arrivals) (omega arith) (omega (arith, now, known))
+
+    goes_at : (place : BarrierPlace) → Goes (carried_out (barrier_intent Word.State place) memory)
+    goes_at (BarrierPlace.Look m) nil = sees
+    goes_at (BarrierPlace.Arrive m seen to) nil = exchanged seen to (memory Word.State == seen) refl nil
+    goes_at BarrierPlace.Wake nil = not_more (both_rounds t rest) is
+    goes_at (BarrierPlace.Stay epoch spins) nil = sees
+
+pub rounds_go_on : (n : ℕ) → n < 2 ^ 32 → GoesOnByActs (barrier_model n) both_rounds (AreRoundsIn n) (λ past _. rounds_after n past) (λ _ _. Unit {0})
+rounds_go_on n fits call place hold past e found step t rest needs is =
+    let law = (keeps_barrier u64_arithmetic n step.parties (e ∷ past) fits step.run).law in
+    let was = step.law.law in
+    subst (Goes n past call t rest) (sym (step.act ∙ step.found_is)) (goes_at n past call t rest fits (word_in (barrier_table n) past) was.counts (λ nil. (was.nobody nil).0) is place) (λ nil. (law.nobody nil).0)
+
+pub waiters_fit : (key : ℕ) → key % 2 ^ 32 < 2 ^ 32
+waiters_fit key = omega arith

@@ -4,6 +4,7 @@ pub mod MutexTally
 pub mod SemaphoreRule
 pub mod SemaphoreTally
 pub mod Counts
+pub mod CountLaws
 pub mod BarrierRule
 pub mod BarrierTally
 pub mod Held

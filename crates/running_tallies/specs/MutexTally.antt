@@ -50,7 +50,7 @@ module _ {P : Type 0} (m : Model ℕ P) (lock : IsForOne m) where
   pub word_is_held : (parties : ℕ) (past : List (Event ℕ)) → IsPast m.arithmetic m.table parties past → (word_in m.table past Word.State ≡ length (holds_of m.table past)) × (word_in m.table past Word.State ≤ 1)
   word_is_held parties past run = held_so _ _ (lock_word m.arithmetic m.table parties (lock parties) past run)
 
-  pub holds_go_on : GoesOnByActs m both_holds (AreHoldsIn m.table) holds_after holds_needed
+  pub holds_go_on : GoesOnByActs m both_holds (AreHoldsIn m.table) (λ _ _. holds_after) holds_needed
   holds_go_on call place hold past e found step counts rest has is =
       let act = step.act ∙ step.found_is in
       let memory = word_in m.table past in

@@ -88,7 +88,7 @@ goes RwReaderPlace.Release c (Some HoldKind.Write) call memory t rest at is fits
 goes RwReaderPlace.Release c None call memory t rest at is fits has = steps_down same_nothing tells_same_nothing tt (memory Word.State) t rest is has
 goes RwReaderPlace.Wake c hold call memory t rest at is fits has = is
 
-pub holds_go_on : GoesOnByActs rw_reader_model both_holds (AreHoldsIn rw_reader_table) held_after held_needed
+pub holds_go_on : GoesOnByActs rw_reader_model both_holds (AreHoldsIn rw_reader_table) (λ _ _. held_after) held_needed
 holds_go_on call place hold past e found step t rest has is =
     let act = step.act ∙ step.found_is in
     let w : ℕ = word_in rw_reader_table past Word.State in

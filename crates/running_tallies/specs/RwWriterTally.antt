@@ -101,7 +101,7 @@ grants_more : (intent : Intent ℕ) (c : PendingCall ℕ) (hold : Option HoldKin
     ((marked_after act call t).read_grants ≡ grants_by rw_writer_table HoldKind.Read act k + t.read_grants) × ((marked_after act call t).write_grants ≡ grants_by rw_writer_table HoldKind.Write act k + t.write_grants)
 grants_more intent c hold call memory t act k h1 h2 h3 = grind (arith, nat_tests, eqb-true, eqb-false)
 
-pub marks_go_on : GoesOnByActs rw_writer_model both_marked AreMarkedIn marked_after marked_needed
+pub marks_go_on : GoesOnByActs rw_writer_model both_marked AreMarkedIn (λ _ _. marked_after) marked_needed
 marks_go_on call place hold past e found step t rest has is =
     let act = step.act ∙ step.found_is in
     let intent : Intent ℕ = rw_writer_table.intent place hold in

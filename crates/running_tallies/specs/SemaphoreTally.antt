@@ -28,7 +28,7 @@ counts_more (Act.Exchange Word.State from to found true) c t rest given taken fi
 counts_more (Act.Add Word.State old put) c t rest given taken first second = (omega (arith, first), omega (arith, second))
 counts_more act c t rest given taken first second = (omega (arith, first), omega (arith, second))
 
-pub permits_go_on : (initial : ℕ) → GoesOnByActs (semaphore_model initial) both_permits (ArePermitsOf initial) permits_after (λ _ _. Unit {0})
+pub permits_go_on : (initial : ℕ) → GoesOnByActs (semaphore_model initial) both_permits (ArePermitsOf initial) (λ _ _. permits_after) (λ _ _. Unit {0})
 permits_go_on initial call place hold past e found step t rest needs is = let more = counts_more e.act step.pending t rest _ _ is.given is.taken in
     subst (λ (c : Call ℕ). ArePermitsOf initial (e ∷ past) (both_permits (permits_after e.act c t) rest)) step.called (record {
       given = more.0 ∙ ap (λ (k : Option (PendingCall ℕ)). semaphore_gives e.act k + permits_given semaphore_gives initial past) (sym step.under_way);

@@ -1,7 +1,7 @@
 //! The model that a barrier plays, and what its pass counts and knows beside.
 
 use model_barrier::BarrierPlace;
-use running_model::{Counts, Played, Script};
+use running_model::{Counts, CountsByActs, Played, Script};
 use running_passes::{Rule, Tally};
 use std::marker::Model;
 
@@ -65,26 +65,44 @@ impl Tally for Rounds {
     ghost adds_up = { rounds_add_up };
 }
 
-/// The rounds that were opened have as many arrivals as the barrier was made for, and the word is the epoch and the arrivals of the
-/// round that fills. The key is the number of waiters.
+/// The run alone says what all passes count and know.
 impl Rule<(), u32> for Rounds {
-    ghost use Rattle.std.specs.Prelude.{◌%◌, ◌^◌};
-    ghost use Rattle.running_tallies.specs.BarrierRule.{no_rounds, BarrierAgrees};
+    ghost use Rattle.running_tallies.specs.BarrierRule.{no_rounds};
 
     ghost first = { λ _. no_rounds };
 
-    ghost agrees = { λ key. BarrierAgrees (key % 2 ^ 32) };
+    ghost agrees = { λ _ _ _ _. Unit {0} };
 }
 
-/// All passes together arrived as often as calls did in the run.
+/// All passes together arrived in each round as often as calls did in the run, and opened the rounds that it fills. The key is the number
+/// of waiters.
 impl Counts<u32, u64> for Rounds {
-    ghost use Rattle.std.proofs.Common.{refl};
-    ghost use Rattle.running_tallies.specs.BarrierRule.{AreArrivalsIn};
-    ghost use Rattle.running_tallies.specs.BarrierTally.{arrivals_stay};
+    ghost use Rattle.std.specs.Prelude.{◌%◌, ◌^◌};
+    ghost use Rattle.running_tallies.specs.BarrierRule.{AreRoundsIn};
+    ghost use Rattle.running_tallies.specs.BarrierTally.{rounds_stay, no_rounds_first};
 
-    ghost follow = { λ _. AreArrivalsIn };
+    ghost follow = { λ key. AreRoundsIn (key % 2 ^ 32) };
 
-    ghost stays = { λ _. arrivals_stay };
+    ghost stays = { λ key. rounds_stay (key % 2 ^ 32) };
 
-    ghost opens = { λ _. refl };
+    ghost opens = { λ key _ _. no_rounds_first (key % 2 ^ 32) };
+}
+
+impl CountsByActs<u32, BarrierScript, BarrierPlace, u64> for Rounds {
+    ghost use Rattle.std.specs.Prelude.{◌%◌, ◌^◌};
+    ghost use Rattle.running_model.specs.Sees.{sights_after};
+    ghost use Rattle.running_tallies.specs.BarrierRule.{rounds_after};
+    ghost use Rattle.running_tallies.specs.BarrierTally.{rounds_same, rounds_go_on, waiters_fit};
+
+    ghost free = { λ _ _ _ _ _ _. tt };
+
+    ghost sees = { sights_after };
+
+    ghost after = { λ key past _. rounds_after (key % 2 ^ 32) past };
+
+    ghost same = { λ key. rounds_same (key % 2 ^ 32) };
+
+    ghost needs = { λ _ _. Unit {0} };
+
+    ghost goes_on = { λ key. rounds_go_on (key % 2 ^ 32) (waiters_fit key) };
 }

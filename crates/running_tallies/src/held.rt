@@ -72,19 +72,22 @@ impl Counts<(), u64> for Held<()> {
 
     ghost stays = { λ _. holds_stay rw_reader_table };
 
-    ghost opens = { λ _. record { reads = refl; writes = refl } };
+    ghost opens = { λ _ _ _. record { reads = refl; writes = refl } };
 }
 
 impl CountsByActs<(), RwReaderScript, RwReaderPlace, u64> for Held<()> {
+    ghost use Rattle.std.proofs.Common.{refl};
     ghost use Rattle.running_model.specs.Sees.{sights_after};
     ghost use Rattle.running_tallies.specs.RwReaderRule.{held_after, held_needed};
     ghost use Rattle.running_tallies.specs.RwReaderTally.{holds_go_on};
 
-    ghost free = { λ _ _ _ _. tt };
+    ghost free = { λ _ _ _ _ _ _. tt };
 
     ghost sees = { sights_after };
 
-    ghost after = { held_after };
+    ghost after = { λ _ _ _. held_after };
+
+    ghost same = { λ _ _ _ _ _ _ _ _. refl };
 
     ghost needs = { held_needed };
 

@@ -86,20 +86,23 @@ impl Counts<(), u64> for Holds {
 
     ghost stays = { λ _. holds_stay mutex_table };
 
-    ghost opens = { λ _. no_holds_first mutex_table };
+    ghost opens = { λ _ _ _. no_holds_first mutex_table };
 }
 
 impl CountsByActs<(), MutexScript, MutexPlace, u64> for Holds {
+    ghost use Rattle.std.proofs.Common.{refl};
     ghost use Rattle.running_model.specs.Sees.{sights_after};
     ghost use Rattle.running_tallies.specs.MutexRule.{holds_after, holds_needed};
     ghost use Rattle.running_tallies.specs.MutexScript.{mutex_model};
     ghost use Rattle.running_tallies.specs.MutexTally.{holds_go_on, mutex_is_for_one};
 
-    ghost free = { λ _ _ _ _. tt };
+    ghost free = { λ _ _ _ _ _ _. tt };
 
     ghost sees = { sights_after };
 
-    ghost after = { holds_after };
+    ghost after = { λ _ _ _. holds_after };
+
+    ghost same = { λ _ _ _ _ _ _ _ _. refl };
 
     ghost needs = { holds_needed };
 

@@ -72,18 +72,21 @@ impl Counts<(), u64> for MarkedHolds {
 
     ghost stays = { λ _. marks_stay };
 
-    ghost opens = { λ _. marks_open };
+    ghost opens = { λ _ _ _. marks_open };
 }
 
 impl CountsByActs<(), RwWriterScript, RwWriterPlace, u64> for MarkedHolds {
+    ghost use Rattle.std.proofs.Common.{refl};
     ghost use Rattle.running_tallies.specs.RwWriterRule.{marked_sees, marked_after, marked_needed};
     ghost use Rattle.running_tallies.specs.RwWriterTally.{marks_go_on};
 
-    ghost free = { λ _ _ _ _. tt };
+    ghost free = { λ _ _ _ _ _ _. tt };
 
     ghost sees = { marked_sees };
 
-    ghost after = { marked_after };
+    ghost after = { λ _ _ _. marked_after };
+
+    ghost same = { λ _ _ _ _ _ _ _ _. refl };
 
     ghost needs = { marked_needed };
 

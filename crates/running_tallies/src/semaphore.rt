@@ -67,20 +67,23 @@ impl Counts<u64, u64> for Permits {
 
     ghost stays = { λ key. permits_stay (key % 2 ^ 64) };
 
-    ghost opens = { λ key. permits_open (key % 2 ^ 64) };
+    ghost opens = { λ key _ _. permits_open (key % 2 ^ 64) };
 }
 
 impl CountsByActs<u64, SemaphoreScript, SemaphorePlace, u64> for Permits {
+    ghost use Rattle.std.proofs.Common.{refl};
     ghost use Rattle.std.specs.Prelude.{◌%◌, ◌^◌};
     ghost use Rattle.running_model.specs.Sees.{sights_after};
     ghost use Rattle.running_tallies.specs.SemaphoreRule.{permits_after};
     ghost use Rattle.running_tallies.specs.SemaphoreTally.{permits_go_on};
 
-    ghost free = { λ _ _ _ _. tt };
+    ghost free = { λ _ _ _ _ _ _. tt };
 
     ghost sees = { sights_after };
 
-    ghost after = { permits_after };
+    ghost after = { λ _ _ _. permits_after };
+
+    ghost same = { λ _ _ _ _ _ _ _ _. refl };
 
     ghost needs = { λ _ _. Unit {0} };
 

@@ -72,16 +72,20 @@ impl Counts<(), u64> for Nothing {
 
     ghost stays = { λ _ _ _ _ _ _. tt };
 
-    ghost opens = { λ _. tt };
+    ghost opens = { λ _ _ _. tt };
 }
 
 /// So an act makes nothing of it, and of what the pass saw.
 impl CountsByActs<(), CounterScript, Intent<u64>, u64> for Nothing {
-    ghost free = { λ _ _ _ _. tt };
+    ghost use Rattle.std.proofs.Common.{refl};
+
+    ghost free = { λ _ _ _ _ _ _. tt };
 
     ghost sees = { λ _ sights. sights };
 
-    ghost after = { λ _ _ _. tt };
+    ghost after = { λ _ _ _ _ _. tt };
+
+    ghost same = { λ _ _ _ _ _ _ _ _. refl };
 
     ghost needs = { λ _ _. Unit {0} };
 

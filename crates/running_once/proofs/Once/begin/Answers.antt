@@ -7,10 +7,10 @@ pub exchange-found-requires-clause-may : goal.exchange-found-requires-clause-may
 exchange-found-requires-clause-may g c = may_begin c.requires.comes.0 _ _ c.running.ensures c.requires.comes.1
 
 pub returns-clause-begun : goal.returns-clause-begun
-returns-clause-begun g c = begins _ _ _ c.args.turn.pass.now c.exchange-found.result.1.pass.now (may_begin c.requires.comes.0 _ _ c.running.ensures c.requires.comes.1) c.exchange-found.ensures.same c.exchange-found.ensures.told c.exchange-found.ensures.beside c.exchange-found.ensures.alone
+returns-clause-begun g c = begins _ _ _ c.args.turn.pass.now c.exchange-found.result.1.pass.now (may_begin c.requires.comes.0 _ _ c.running.ensures c.requires.comes.1) c.exchange-found.ensures.same c.exchange-found.ensures.acted.told c.exchange-found.ensures.acted.share
 
 pub returns-clause-refused : goal.returns-clause-refused
-returns-clause-refused g c = λ miss. (waits _ _ _ c.args.turn.pass.now c.exchange-found.result.1.pass.now (may_begin c.requires.comes.0 _ _ c.running.ensures c.requires.comes.1) c.exchange-found.ensures.same c.exchange-found.ensures.told (eqb-false _ 0 miss)).1
+returns-clause-refused g c = λ miss. (waits _ _ _ c.args.turn.pass.now c.exchange-found.result.1.pass.now (may_begin c.requires.comes.0 _ _ c.running.ensures c.requires.comes.1) c.exchange-found.ensures.same c.exchange-found.ensures.acted.told (eqb-false _ 0 miss)).1
 
 pub returns-clause-runs : goal.returns-clause-runs
 returns-clause-runs g c = λ hit done at. runs _ done _ _ hit at c.exchange-found.ensures.went

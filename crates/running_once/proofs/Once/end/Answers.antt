@@ -9,7 +9,7 @@ pub store-requires-clause-needs : goal.store-requires-clause-needs
 store-requires-clause-needs g c = λ name found named. c.requires.on
 
 pub returns-clause-ended : goal.returns-clause-ended
-returns-clause-ended g c = ends _ c.args.turn.pass.now c.store.result.pass.now (may_complete c.requires.runs.0 _ c.requires.runs.1) c.store.ensures.same c.store.ensures.told
+returns-clause-ended g c = ends _ c.args.turn.pass.now c.store.result.pass.now (may_complete c.requires.runs.0 _ c.requires.runs.1) c.store.ensures.same c.store.ensures.acted.told
 
 pub returns-clause-left : goal.returns-clause-left
 returns-clause-left g c = λ done at. completes done _ _ at c.store.ensures.went

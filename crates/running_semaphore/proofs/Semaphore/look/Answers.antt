@@ -1,13 +1,13 @@
-use Rattle.running_semaphore.specs.Names.{parties_of, counts_of}
+use Rattle.running_semaphore.specs.Names.{view}
 use Rattle.running_semaphore.proofs.Names.{arith}
 use Rattle.running_semaphore.proofs.SemaphoreKeeps.{loads, loaded_there}
 use Rattle.running_semaphore.proofs.Semaphore.look.Goals as goal
 
 pub returns-clause-saw : goal.returns-clause-saw
-returns-clause-saw g c = (c.load.ensures.same, loads _ _ _ _ _ _ c.requires.may c.load.ensures.told)
+returns-clause-saw g c = (c.load.ensures.same, loads _ _ _ _ _ _ c.requires.may c.load.ensures.acted.told)
 
 pub returns-clause-exact : goal.returns-clause-exact
-returns-clause-exact g c = λ whole. (loaded_there _ (omega arith) (counts_of c.args.turn.pass.now) _ (parties_of c.args.turn.pass.now) _ c.requires.may (c.load.ensures.alone whole)).value_is
+returns-clause-exact g c = λ whole. (loaded_there _ (omega arith) _ (view c.args.turn.pass.now) _ c.requires.may c.load.ensures.acted.share whole).value_is
 
 pub returns-clause-enough : goal.returns-clause-enough
-returns-clause-enough g c = λ whole. (loaded_there _ (omega arith) (counts_of c.args.turn.pass.now) _ (parties_of c.args.turn.pass.now) _ c.requires.may (c.load.ensures.alone whole)).enough
+returns-clause-enough g c = λ whole. (loaded_there _ (omega arith) _ (view c.args.turn.pass.now) _ c.requires.may c.load.ensures.acted.share whole).enough

@@ -3,6 +3,7 @@ use Rattle.running_atomic.proofs.Names.{Some, sym, subst}
 use Rattle.running_atomic.specs.AtomicParties.{Knows}
 use Rattle.running_atomic.proofs.AtomicPlays.{reads_next, may_read_low, reads_low, may_read_high, reads_high}
 use Rattle.running_atomic.proofs.Compares.{compared, low_read, on_already}
+use Rattle.running_atomic.specs.AtomicRule.{IsWritten}
 use Rattle.running_atomic.proofs.calls.Atomic.compare.Goals as goal
 
 pub read_low-low-requires-clause-may : goal.read_low-low-requires-clause-may
@@ -29,3 +30,6 @@ pub returns-clause-compared : goal.returns-clause-compared
 returns-clause-compared g c =
     compared g.T.AtomicInteger.arithmetic (key_of c.args.self.now.stage) c.args.by.now.act c.args.by.now.current c.from_words.result c.read_low-low.result.0 c.compare_high-high.result.0 c.args.turn.pass.now c.args.turn.pass.now c.read_low-low.result.1.pass.now c.compare_high-high.result.1.pass.now (on_already c.args.turn.pass.now c.requires.on) c.read_low-low.ensures.same
     c.read_low-low.ensures.read c.compare_high-high.ensures.same c.compare_high-high.ensures.compared c.from_words.ensures.given
+
+pub compare_high-high-requires-clause-written : goal.compare_high-high-requires-clause-written
+compare_high-high-requires-clause-written g c κs within = subst (IsWritten g.T.AtomicInteger.arithmetic) (sym c.requires.acts) c.requires.written

@@ -1,11 +1,12 @@
-use Rattle.running_atomic.specs.Names.{plain, HasCalled, Free, Answer, Pass, parties_of, counts_of, key_of}
-use Rattle.running_atomic.proofs.Names.{◌≡◌, None, refl, sym, subst, ◌∙◌, is_over, MatchBool-at_true, MatchBool-at_false}
+use Rattle.running_atomic.specs.Names.{plain, HasCalled, Free, Answer, Pass, parties_of, counts_of, key_of, is_some}
+use Rattle.running_atomic.proofs.Names.{◌≡◌, None, refl, sym, subst, ◌∙◌, is_over, MatchBool-at_true, MatchBool-at_false, ap}
 use Rattle.running_atomic.specs.AtomicModel.{atomic_model}
 use Rattle.running_atomic.specs.AtomicShown.{HasActedAt}
 use Rattle.running_atomic.specs.AtomicSteps.{PlayedAtomic}
 use Rattle.running_atomic.proofs.AtomicPlays.{may_leave, leaves, answers_so, differs}
 use Rattle.running_atomic.proofs.Compares.{compared_later, has_kept, answers_other, answers_same, keeps_other, writes_new, puts_new}
 use Rattle.running_atomic.proofs.OverCalls.{acts_after, rests_left}
+use Rattle.running_atomic.specs.AtomicGoesOn.{plain_is_written}
 use Rattle.running_atomic.proofs.calls.Atomic.exchange.Goals as goal
 
 pub act_of-requires-clause-writes : goal.act_of-requires-clause-writes
@@ -64,3 +65,9 @@ returns-else-is_same-clause-rest g c = subst (λ (q : Pass (PlayedAtomic g.row.T
 pub returns-else-is_same-clause-played_kept : goal.returns-else-is_same-clause-played_kept
 returns-else-is_same-clause-played_kept g c = subst (λ (q : Pass (PlayedAtomic g.row.T.Denot)). HasCalled (atomic_model g.T.AtomicInteger.arithmetic (key_of c.args.self.now.stage)) c.args.call.now (Answer.ErrOld c.compare-old.result.0) None (parties_of c.args.pass.now) (parties_of q)) (sym (c.pass-else-is_same-1.given.1 (sym c.write_lock-locked.ensures.same_borrow ∙ sym c.compare-old.ensures.same_borrow ∙ sym c.leave_write-last.ensures.same_borrow ∙ sym c.end-pass-else-is_same.ensures.same_borrow) ∙ c.end-pass-else-is_same.ensures.still))
     (leaves _ _ _ _ _ _ _ (differs _ _ _ c.args.current c.compare-old.result.0 c.args.new _ _ (c.requires.compares c.compare-old.result.0) (sym c.is_same.ensures ∙ c.if-is_same.false) (c.compare-old.ensures.knows _ c.write_lock-locked.ensures.next)) c.leave_write-last.ensures.went)
+
+pub compare-old-requires-clause-written : goal.compare-old-requires-clause-written
+compare-old-requires-clause-written g c κs within = plain_is_written g.T.AtomicInteger.arithmetic c.args.call.now c.act_of.ensures.values (ap is_some c.requires.writes.grants) c.requires.asks_nobody
+
+pub replace-last-requires-clause-written : goal.replace-last-requires-clause-written
+replace-last-requires-clause-written g c κs within = plain_is_written g.T.AtomicInteger.arithmetic c.args.call.now c.act_of.ensures.values (ap is_some c.requires.writes.grants) c.requires.asks_nobody

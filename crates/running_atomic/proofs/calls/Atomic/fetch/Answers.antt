@@ -1,5 +1,5 @@
-use Rattle.running_atomic.specs.Names.{plain, HasCalled, key_of, Free, Answer, Pass, parties_of, counts_of}
-use Rattle.running_atomic.proofs.Names.{◌≡◌, None, refl, sym, subst, ◌∙◌, is_over}
+use Rattle.running_atomic.specs.Names.{plain, HasCalled, key_of, Free, Answer, Pass, parties_of, counts_of, is_some}
+use Rattle.running_atomic.proofs.Names.{◌≡◌, None, refl, sym, subst, ◌∙◌, is_over, ap}
 use Rattle.running_atomic.specs.AtomicModel.{atomic_model}
 use Rattle.running_atomic.specs.AtomicShown.{HasActedAt}
 use Rattle.running_atomic.specs.AtomicParties.{Puts}
@@ -7,6 +7,7 @@ use Rattle.running_atomic.specs.AtomicSteps.{PlayedAtomic}
 use Rattle.running_atomic.proofs.AtomicPlays.{answers_so}
 use Rattle.running_atomic.proofs.OverCalls.{acts_after}
 use Rattle.running_atomic.proofs.Compares.{taken_later}
+use Rattle.running_atomic.specs.AtomicGoesOn.{plain_is_written}
 use Rattle.running_atomic.proofs.calls.Atomic.fetch.Goals as goal
 
 pub act_of-act-requires-clause-writes : goal.act_of-act-requires-clause-writes
@@ -40,3 +41,6 @@ returns-clause-rest g c = subst (λ (q : Pass (PlayedAtomic g.row.T.Denot)). (co
 
 pub returns-clause-played : goal.returns-clause-played
 returns-clause-played g c = subst (λ (q : Pass (PlayedAtomic g.row.T.Denot)). HasCalled (atomic_model g.T.AtomicInteger.arithmetic (key_of c.args.self.now.stage)) c.args.call.now (Answer.Value c.take-old.result.0) None (parties_of c.args.pass.now) (parties_of q)) (sym (c.pass-1.given.1 (sym c.write_lock-locked.ensures.same_borrow ∙ sym c.take-old.ensures.same_borrow ∙ sym c.replace-last.ensures.same_borrow ∙ sym c.end-pass.ensures.same_borrow) ∙ c.end-pass.ensures.still)) (answers_so _ _ _ _ _ (parties_of c.args.pass.now) _ (c.requires.tells c.take-old.result.0) (c.replace-last.ensures.played _ (c.take-old.ensures.knows _ c.write_lock-locked.ensures.next)))
+
+pub replace-last-requires-clause-written : goal.replace-last-requires-clause-written
+replace-last-requires-clause-written g c κs within = plain_is_written g.T.AtomicInteger.arithmetic c.args.call.now c.act_of-act.ensures.values (ap is_some c.requires.writes.grants) c.requires.asks_nobody

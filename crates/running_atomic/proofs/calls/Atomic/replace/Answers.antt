@@ -1,6 +1,6 @@
 use Rattle.running_atomic.specs.Names.{parties_of, key_of, answer_to, plain, value_after}
 use Rattle.running_atomic.proofs.Names.{sym, subst, ◌∙◌}
-use Rattle.running_atomic.specs.AtomicRule.{act_in}
+use Rattle.running_atomic.specs.AtomicRule.{act_in, IsWritten}
 use Rattle.running_atomic.specs.AtomicShown.{HasActedAt}
 use Rattle.running_atomic.proofs.AtomicPlays.{comes_to_put, may_put}
 use Rattle.running_atomic.proofs.OverCalls.{settles_holding, right_to_put, has_replaced_by, stores_plain}
@@ -26,3 +26,6 @@ put-requires-clause-right g c κs within = right_to_put _ _ _ _ c.args.turn.pass
 pub returns-clause-acted : goal.returns-clause-acted
 returns-clause-acted g c = let z = g.T.AtomicInteger.arithmetic in
     subst (λ r. HasActedAt z (key_of c.args.self.now.stage) r (answer_to z r c.args.old) c.args.turn.pass.now c.put.result.pass.now) c.requires.acts (has_replaced_by _ _ _ _ c.args.turn.pass.now c.put.result.pass.now c.requires.holding c.put.ensures.same c.put.ensures.acted)
+
+pub put-requires-clause-written : goal.put-requires-clause-written
+put-requires-clause-written g c κs within = subst (IsWritten g.T.AtomicInteger.arithmetic) (sym c.requires.acts) c.requires.written

@@ -1,9 +1,9 @@
+use Rattle.running_atomic.proofs.Names.{ap}
 use Rattle.running_atomic.proofs.AtomicKeeps.{settles}
-use Rattle.running_atomic.proofs.HistoryFollows.{settle_follows}
 use Rattle.running_atomic.proofs.calls.Atomic.settle.Goals as goal
 
-pub look-requires-clause-update : goal.look-requires-clause-update
-look-requires-clause-update g c = settles _ _ _
+pub returns-clause-stayed : goal.returns-clause-stayed
+returns-clause-stayed g c = ap (λ v. v.tally.parties) c.learn.ensures.learned.now
 
-pub look-requires-clause-follow : goal.look-requires-clause-follow
-look-requires-clause-follow g c = settle_follows _ _ _
+pub returns-clause-settled : goal.returns-clause-settled
+returns-clause-settled g c = settles _ _ _ _ c.learn.ensures.learned

@@ -1,11 +1,12 @@
 use Rattle.running_atomic.specs.Names.{Call, Answer, plain, value_after, answer_to, HasCalled, Pass, parties_of, counts_of, key_of, Free}
 use Rattle.running_atomic.proofs.Names.{◌≡◌, None, sym, subst, ◌∙◌, refl, is_over}
-use Rattle.running_atomic.specs.AtomicRule.{act_in, value_of}
+use Rattle.running_atomic.specs.AtomicRule.{act_in, value_of, IsWritten}
 use Rattle.running_atomic.specs.AtomicModel.{atomic_model}
 use Rattle.running_atomic.specs.AtomicShown.{HasActedAt}
 use Rattle.running_atomic.specs.AtomicSteps.{PlayedAtomic}
 use Rattle.running_atomic.proofs.AtomicPlays.{may_put, takes_first, misses_first}
 use Rattle.running_atomic.proofs.OverCalls.{anyway, puts_after, stores_plain, not_writing, got_writing, got_later, rests_still}
+use Rattle.running_atomic.specs.AtomicGoesOn.{plain_is_written}
 use Rattle.running_atomic.proofs.calls.Atomic.store_by.Goals as goal
 
 pub put-last-requires-clause-on : goal.put-last-requires-clause-on
@@ -63,3 +64,9 @@ returns-clause-rest g c = subst (λ (q : Pass (PlayedAtomic g.row.T.Denot)). (co
 
 pub returns-clause-played : goal.returns-clause-played
 returns-clause-played g c = subst (λ (q : Pass (PlayedAtomic g.row.T.Denot)). HasCalled (atomic_model g.T.AtomicInteger.arithmetic (key_of c.args.self.now.stage)) (Call.Store c.args.value) Answer.Done None (parties_of c.args.pass.now) (parties_of q)) (sym (c.pass-2-1.given.1 (sym c.first_enter-found.ensures.same_borrow ∙ sym c.write_later-locked.ensures.same_borrow ∙ sym c.put-last-2.ensures.same_borrow ∙ sym c.end-pass-2.ensures.same_borrow) ∙ c.end-pass-2.ensures.still)) (c.put-last-2.ensures.put _ _ _ (c.write_later-locked.ensures.next _ (misses_first g.T.AtomicInteger.arithmetic (key_of c.args.self.now.stage) (Call.Store c.args.value) _ _ _ (record { begins = refl; grants = refl; free = refl }) c.act_of-act.ensures.values c.if-found-eq0.false c.first_enter-found.ensures.went)))
+
+pub put-last-requires-clause-written : goal.put-last-requires-clause-written
+put-last-requires-clause-written g c κs within = subst (IsWritten g.T.AtomicInteger.arithmetic) (sym c.act_of-act.ensures.act) (plain_is_written g.T.AtomicInteger.arithmetic (Call.Store c.args.value) c.act_of-act.ensures.values refl refl)
+
+pub put-last-requires-2-clause-written : goal.put-last-requires-2-clause-written
+put-last-requires-2-clause-written g c κs within = subst (IsWritten g.T.AtomicInteger.arithmetic) (sym c.act_of-act.ensures.act) (plain_is_written g.T.AtomicInteger.arithmetic (Call.Store c.args.value) c.act_of-act.ensures.values refl refl)

@@ -15,7 +15,7 @@ end-requires-clause-over g c = wait_is_over c.requires.inside.0 _ (goes_out _ _ 
 
 pub returns-clause-counted : goal.returns-clause-counted
 returns-clause-counted g c = subst (λ q. HasDone went_out c.args.slept.pass.now q) (sym c.end.ensures.still)
-    (c.subtract-over.ensures.same, counts_out _ _ _ _ _ (may_count_out c.requires.inside.0 _ c.requires.inside.1) c.subtract-over.ensures.told)
+    (c.subtract-over.ensures.same, counts_out _ _ _ _ _ (may_count_out c.requires.inside.0 _ c.requires.inside.1) c.subtract-over.ensures.acted.told)
 
 pub returns-clause-out : goal.returns-clause-out
 returns-clause-out g c = λ done at. subst (λ q. IsOut done (parties_of q)) (sym c.end.ensures.still) (goes_out _ done _ _ at c.subtract-over.ensures.went)

@@ -12,7 +12,7 @@ end-waits-requires-clause-over g c = look_is_over c.load-waiting.result.0 (parti
 
 pub returns-clause-saw : goal.returns-clause-saw
 returns-clause-saw g c =
-    let met : HasSeen c.load-waiting.result.0 c.begin_new-begun.result.pass.now c.load-waiting.result.1.pass.now = (c.load-waiting.ensures.same, loads _ _ _ _ _ (may_look _) c.load-waiting.ensures.told) in
+    let met : HasSeen c.load-waiting.result.0 c.begin_new-begun.result.pass.now c.load-waiting.result.1.pass.now = (c.load-waiting.ensures.same, loads _ _ _ _ _ (may_look _) c.load-waiting.ensures.acted.told) in
     subst (λ q. HasSeen c.load-waiting.result.0 c.args.waits.now q) (sym (c.waits-1.given.1 (sym c.begin_new-begun.ensures.same_borrow ∙ sym c.load-waiting.ensures.same_borrow ∙ sym c.end-waits.ensures.same_borrow) ∙ c.end-waits.ensures.still))
     (subst (λ p. HasSeen c.load-waiting.result.0 p c.load-waiting.result.1.pass.now) c.begin_new-begun.ensures.still met)
 
@@ -24,4 +24,4 @@ returns-clause-played g c =
 
 pub returns-clause-none : goal.returns-clause-none
 returns-clause-none g c = subst (λ (p : WaitsPass). IsWhole (part_of p) → (counts_of p).ended ≡ (counts_of p).begun → c.load-waiting.result.0 ≡ 0) c.begin_new-begun.ensures.still
-    (λ whole out. none_there (counts_of c.begin_new-begun.result.pass.now) _ (parties_of c.begin_new-begun.result.pass.now) _ (may_look _) (c.load-waiting.ensures.alone whole) out)
+    (none_there _ c.begin_new-begun.result.pass.now _ (may_look _) c.load-waiting.ensures.acted.share)

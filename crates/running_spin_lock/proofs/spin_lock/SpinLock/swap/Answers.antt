@@ -13,14 +13,14 @@ pub swap-found-requires-clause-carries : goal.swap-found-requires-clause-carries
 swap-found-requires-clause-carries g c = carries_none _ _ c.requires.off c.requires.no_slot
 
 pub returns-clause-locked : goal.returns-clause-locked
-returns-clause-locked g c = let step = c.swap-found.ensures.stepped in tried spin_model spin_is_for_one _ _ swaps _ _ c.args.turn.seat.me.0 c.requires.may c.swap-found.result.1.seat.me.0 step.beside step.told
+returns-clause-locked g c = let acted = c.swap-found.ensures.stepped.acted in tried spin_model spin_is_for_one _ _ swaps _ _ c.args.turn.seat.me.0 c.requires.may acted.share c.swap-found.result.1.seat.me.0 acted.told
 
 pub returns-clause-slot : goal.returns-clause-slot
-returns-clause-slot g c = let step = c.swap-found.ensures.stepped in
-    value_tried _ (λ s. seen s 1) c.args.turn.seat.me.0 c.swap-found.result.1.seat.me.0 _ c.requires.off (tried spin_model spin_is_for_one _ _ swaps _ _ c.args.turn.seat.me.0 c.requires.may c.swap-found.result.1.seat.me.0 step.beside step.told) c.swap-found.ensures.carries
+returns-clause-slot g c = let acted = c.swap-found.ensures.stepped.acted in
+    value_tried _ (λ s. seen s 1) c.args.turn.seat.me.0 c.swap-found.result.1.seat.me.0 _ c.requires.off (tried spin_model spin_is_for_one _ _ swaps _ _ c.args.turn.seat.me.0 c.requires.may acted.share c.swap-found.result.1.seat.me.0 acted.told) c.swap-found.ensures.carries
 
 pub returns-clause-tried : goal.returns-clause-tried
 returns-clause-tried g c = (c.swap-found.result.0, zero_or_not _, c.swap-found.ensures.stepped.went)
 
 pub returns-clause-exact : goal.returns-clause-exact
-returns-clause-exact g c = λ whole. tried_alone spin_model spin_is_for_one _ _ swaps _ _ c.args.turn.seat.me.0 c.requires.may (c.swap-found.ensures.stepped.alone whole) c.requires.off
+returns-clause-exact g c = λ whole. tried_alone spin_model spin_is_for_one _ _ swaps _ _ c.args.turn.seat.me.0 c.requires.may c.swap-found.ensures.stepped.acted.share whole c.requires.off

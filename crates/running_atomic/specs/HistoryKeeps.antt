@@ -1,15 +1,21 @@
 -- What is known of the history, and which acts are own, as it grows.
-use Rattle.running_atomic.specs.Names.{Arithmetic, count_at, one_more, both_counts, RegisterAct, value_after, after_acts}
-use Rattle.running_atomic.proofs.Names.{◌≡◌, ℕ, zero, suc, ◌+◌, ◌≤◌, List, [], ◌∷◌, ◌++◌, length, sym, refl, ap, ◌∙◌, subst, arith}
-use Rattle.running_tallies.proofs.CountLaws.{in_both, more_in_both}
+use Rattle.running_atomic.specs.Names.{Arithmetic, count_at, one_more, both_counts, RegisterAct}
+use Rattle.std.proofs.Common.{◌≡◌, ℕ, zero, suc, ◌+◌, ◌≤◌, List, [], ◌∷◌, ◌++◌, length, sym, refl, ap, ◌∙◌, subst, arith}
+use Rattle.running_tallies.specs.CountLaws.{in_both, more_in_both}
 use Rattle.running_atomic.specs.declared.history.AtomicAct.{AtomicAct}
 use Rattle.running_atomic.specs.declared.history.Place.{Place}
 use Rattle.running_atomic.specs.declared.history.Place.TheVariants.{Unknown, Is, Torn}
 use Rattle.running_atomic.specs.declared.history.Heard.{Heard}
 use Rattle.running_atomic.specs.Agree.{merge, met_is, met_else, by_same, merge_none, merge_idem, merge_comm, merge_assoc}
 use Rattle.running_atomic.specs.History.{heard, both_heard, same_act, acts_tell}
-use Rattle.running_atomic.specs.AtomicRule.{prefix, known, each_once, acts_in, act_in, history_in, HasHistory}
-use Rattle.running_atomic.specs.AtomicSteps.{StartsWith, AreMarks}
+use Rattle.running_atomic.specs.AtomicRule.{prefix, known, each_once, acts_in, act_in, history_in}
+
+abbrev pub StartsWith : {A : Type 0} → List A → List A → Type 0
+StartsWith {A} l first = (rest : List A) × (l ≡ first ++ rest)
+
+-- each act in the history is an own one once at most, and none beyond it is
+abbrev pub AreMarks : {A : Type 0} → List ℕ → List A → Type 0
+AreMarks own history = (place : ℕ) → (count_at place own ≤ 1) × (length history ≤ place → count_at place own ≡ 0)
 
 abbrev Places : Type 0
 Places = List (Place AtomicAct)
@@ -77,46 +83,6 @@ snoc_own (x ∷ h) a = ap (λ (l : List ℕ). 1 ∷ l) (snoc_own h a)
 pub grows_own : (h : List AtomicAct) (a : AtomicAct) (v r : List ℕ) → both_counts v r ≡ each_once h → both_counts (one_more (length h) v) r ≡ each_once (h ++ a ∷ [])
 grows_own h a v r is = more_in_both (length h) v r ∙ ap (one_more (length h)) is ∙ snoc_own h a
 
--- without own acts there are none
-none_once : (l : List AtomicAct) → each_once l ≡ [] → l ≡ []
-none_once [] is = refl
-none_once (x ∷ l) is = absurd cc
-
-none_more : (h more : List AtomicAct) → each_once (h ++ more) ≡ each_once h → h ++ more ≡ h
-none_more [] more is = none_once more is
-none_more (x ∷ h) more is = let others_are : each_once (h ++ more) ≡ each_once h = cc in ap (λ (l : List AtomicAct). x ∷ l) (none_more h more others_are)
-
--- where there is one own act more, in the place of this one, there is this one more
-one_more_is : (h before more later : List AtomicAct) (a : AtomicAct) → each_once (h ++ more) ≡ one_more (length before) (each_once h) → h ++ more ≡ (before ++ a ∷ []) ++ later → h ++ more ≡ h ++ a ∷ []
-one_more_is [] [] more later a counts is = let none : each_once later ≡ [] = let both : each_once (a ∷ later) ≡ 1 ∷ [] = ap each_once (sym is) ∙ counts in cc in is ∙ ap (λ (l : List AtomicAct). a ∷ l) (none_once later none)
-one_more_is [] (y ∷ before) more later a counts is = let both : each_once (y ∷ ((before ++ a ∷ []) ++ later)) ≡ one_more (length (y ∷ before)) [] = ap each_once (sym is) ∙ counts in let no : ◌≡◌ {A = ℕ} 1 0 = cc in absurd (omega (arith, no))
-one_more_is (x ∷ h) [] more later a counts is = let no : ◌≡◌ {A = ℕ} 1 (1 + 1) = cc in absurd (omega (arith, no))
-one_more_is (x ∷ h) (y ∷ before) more later a counts is =
-    let others_count : each_once (h ++ more) ≡ one_more (length before) (each_once h) = cc in let others_are : h ++ more ≡ (before ++ a ∷ []) ++ later = cc in
-    ap (λ (l : List AtomicAct). x ∷ l) (one_more_is h before more later a others_count others_are)
-
--- where a pass knows what it knew, the history that all know begins with the one that all knew
-grown : (h g : List AtomicAct) (v w r : Places) → M v r ≡ known h → M w r ≡ known g → M w v ≡ w → StartsWith g h
-grown h g v w r was now knew =
-    let all : M (known g) (known h) ≡ known g = (λ i. M (sym now i) (sym was i)) ∙ merge_assoc same_act acts_tell w r (M v r) ∙ ap (M w) (merge_comm same_act acts_tell r (M v r) ∙ merge_assoc same_act acts_tell v r r ∙ ap (M v) (merge_idem same_act acts_tell r))
-    ∙ sym (merge_assoc same_act acts_tell w v r) ∙ ap (λ (x : Places). M x r) knew ∙ now in
-    let t = starts g (known h) all in (t.0, t.1 ∙ ap (λ (l : List AtomicAct). l ++ t.0) (prefix_known h))
-
--- without an own act more it is as long
-pub as_long : (h g : List AtomicAct) (v w r : Heard) → (both_heard v r).seen ≡ known h → (both_heard v r).own ≡ each_once h → (both_heard w r).seen ≡ known g → (both_heard w r).own ≡ each_once g → M w.seen v.seen ≡ w.seen → w.own ≡ v.own → g ≡ h
-as_long h g v w r was owned now owns knew own =
-    let t = grown h g v.seen w.seen r.seen was now knew in t.1 ∙ none_more h t.0 (ap each_once (sym t.1) ∙ sym owns ∙ ap (λ (l : List ℕ). both_counts l r.own) own ∙ owned)
-
--- with one, the last that the pass knows, it is longer by this one
-pub one_longer : (h g before : List AtomicAct) (a : AtomicAct) (v w r : Heard) → (both_heard v r).seen ≡ known h → (both_heard v r).own ≡ each_once h → (both_heard w r).seen ≡ known g → (both_heard w r).own ≡ each_once g →
-    w.seen ≡ known (before ++ a ∷ []) → M w.seen v.seen ≡ w.seen → w.own ≡ one_more (length before) v.own → g ≡ h ++ a ∷ []
-one_longer h g before a v w r was owned now owns seen knew own =
-    let t = grown h g v.seen w.seen r.seen was now knew in
-    let s = starts g w.seen (absorbs_first w.seen r.seen (known g) now) in
-    let last : g ≡ (before ++ a ∷ []) ++ s.0 = s.1 ∙ ap (λ (l : List AtomicAct). l ++ s.0) (ap prefix seen ∙ prefix_known (before ++ a ∷ [])) in
-    let counts : each_once (h ++ t.0) ≡ one_more (length before) (each_once h) = ap each_once (sym t.1) ∙ sym owns ∙ ap (λ (l : List ℕ). both_counts l r.own) own ∙ more_in_both (length before) v.own r.own ∙ ap (one_more (length before)) owned in
-    t.1 ∙ one_more_is h before t.0 s.0 a counts (sym t.1 ∙ last)
-
 in_once : (x : ℕ) (h : List AtomicAct) → (count_at x (each_once h) ≤ 1) × (length h ≤ x → count_at x (each_once h) ≡ 0)
 in_once x [] = (omega arith, λ _. refl)
 in_once zero (a ∷ h) = (omega arith, λ le. absurd (omega arith))
@@ -138,10 +104,6 @@ module _ {T : Type 0} (z : Arithmetic T) where
   each_act [] = refl
   each_act (x ∷ h) = ap (λ (l : List ℕ). 1 ∷ l) (each_act h)
 
-  pub value_snoc : (k : T) (h : List AtomicAct) (a : AtomicAct) → after_acts z k (acts_in z (h ++ a ∷ [])) ≡ value_after z (act_in z a) (after_acts z k (acts_in z h))
-  value_snoc k [] a = refl
-  value_snoc k (x ∷ h) a = value_snoc (value_after z (act_in z x) k) h a
-
   -- all is known of a history
   pub seen_known : (t : Heard) (h : List AtomicAct) → t.seen ≡ known h → history_in z t ≡ acts_in z h
   seen_known t h is = ap (λ (p : Places). acts_in z (prefix p)) is ∙ ap (acts_in z) (prefix_known h)
@@ -159,15 +121,3 @@ module _ {T : Type 0} (z : Arithmetic T) where
 
   pub marks_in : (h : List AtomicAct) (v r : List ℕ) → both_counts v r ≡ each_once h → (history : List (RegisterAct T)) → history ≡ acts_in z h → AreMarks v history
   marks_in h v r is history same x = let t = marks h v r is x in (t.0, λ le. t.1 (subst (λ n. n ≤ x) (ap length same ∙ acts_length h) le))
-
-  -- one act more
-  abbrev pub more : List AtomicAct → AtomicAct → Heard → Heard
-  more h a t = heard (known (h ++ a ∷ [])) (one_more (length h) t.own)
-
-  abbrev pub extends : (k : T) (v r : Heard) (a : AtomicAct) (old : T) (has : HasHistory z k (both_heard v r) old) → HasHistory z k (both_heard (more has.history a v) r) (value_after z (act_in z a) old)
-  extends k v r a old has = let h : List AtomicAct = has.history in record {
-    history = h ++ a ∷ [];
-    seen = grows h (a ∷ []) v.seen r.seen has.seen;
-    own = grows_own h a v.own r.own has.own;
-    value_is = value_snoc k h a ∙ ap (value_after z (act_in z a)) has.value_is;
-  }

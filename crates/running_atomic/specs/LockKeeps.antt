@@ -1,6 +1,6 @@
 -- Each step of the lock, as a fact of its word, the data words and the holds.
 use Rattle.running_atomic.specs.Names.{Held, Free, Reading, Writing, Torn, TellsSame, both_held, read_holds, write_holds, Locks}
-use Rattle.running_atomic.proofs.Names.{◌≡◌, ℕ, ◌+◌, ◌-◌, ◌%◌, ◌^◌, ◌<◌, Bool, sym, refl, ap, ◌∙◌, subst, arith}
+use Rattle.std.proofs.Common.{◌≡◌, ℕ, ◌+◌, ◌-◌, ◌%◌, ◌^◌, ◌<◌, Bool, sym, refl, ap, ◌∙◌, subst, arith}
 use Rattle.running_tallies.specs.HeldKeeps.{is_free, only_reads, parts, comes_in, goes_out, takes_over}
 use Rattle.running_atomic.specs.AtomicRule.{register_of}
 
@@ -36,8 +36,8 @@ module _ {X : Type 0} (same : X → X → Bool) (tells : TellsSame same) where
       let all = parts same tells d (Reading 0 x) rest is.knows in
       (all.first, no_writer (sum (Reading 0 x) rest) d (only_reads d (sum (Reading 0 x) rest) is.knows (let reads = all.reads in omega (arith, reads))))
 
-  pub leaves_read : (n : ℕ) (d x : X) (rest : Held X) → Locks n d (sum (Reading 0 x) rest) → n < 2 ^ 64 → Locks ((n + (2 ^ 64 - 1)) % 2 ^ 64) d rest × (register_of rest d ≡ register_of (sum (Reading 0 x) rest) d)
-  leaves_read n d x rest is fits =
+  pub leaves_read : (n : ℕ) (d x : X) (rest : Held X) → Locks n d (sum (Reading 0 x) rest) → Locks ((n + (2 ^ 64 - 1)) % 2 ^ 64) d rest × (register_of rest d ≡ register_of (sum (Reading 0 x) rest) d)
+  leaves_read n d x rest is =
       let step = goes_out same tells d n (Reading 0 x) rest is (omega arith) in
       let some = step.some in
       let all = parts same tells d (Reading 0 x) rest is.knows in
@@ -46,6 +46,7 @@ module _ {X : Type 0} (same : X → X → Bool) (tells : TellsSame same) where
       let reads = all.reads in
       let none = only_reads d (sum (Reading 0 x) rest) is.knows (omega (arith, reads)) in
       let nobody : write_holds rest ≡ 0 = omega (arith, same_writes, none) in
+      let word_is = is.word_is in let room = is.room in let fits : n < 2 ^ 64 = omega (arith, word_is, none, room) in
       (subst (λ m. Locks m d rest) (omega (arith, fits, some)) step.locks, no_writer rest d nobody ∙ sym whole.1)
 
   -- a write hold is alone

@@ -1,5 +1,5 @@
 -- What a count is where lists of counts are added up, and where one more is counted.
-use Rattle.running_tallies.proofs.Names.{◌≡◌, ◌≢◌, ℕ, zero, suc, ◌+◌, List, [], ◌∷◌, refl, ap, arith}
+use Rattle.std.proofs.Common.{◌≡◌, ◌≢◌, ℕ, zero, suc, ◌+◌, List, [], ◌∷◌, refl, ap, arith}
 use Rattle.running_tallies.specs.Counts.{count_at, one_more, both_counts}
 
 pub in_both : (place : ℕ) (xs ys : List ℕ) → count_at place (both_counts xs ys) ≡ count_at place xs + count_at place ys
