@@ -11,8 +11,8 @@ import subprocess
 import sys
 
 NO_ANSWERS = ("waits", "wakes", "chooses")
-VERBS = ("go", "run", "wait", "abort")
-CLOSURES = (["aborts"], ["may", "abort"], ["sleeps"])
+VERBS = ("go", "run", "wait", "abort", "some", "none")
+CLOSURES = ("aborts", "may", "sleeps")
 
 
 def variables_of(question):
@@ -44,7 +44,7 @@ def calls_of(question):
         party, _, rest = line.strip().partition(" ")
         if not party.isdigit():
             continue
-        if rest.strip() and rest.split() not in CLOSURES:
+        if rest.strip() and rest.split()[0] not in CLOSURES:
             calls += [(party, call) for call in map(call_in, rest.split(",")) if call is not None]
     return calls
 

@@ -165,7 +165,7 @@ pub fn answer<T: AtomicInteger>(
 }
 
 /// The choice closure of a party answers.
-pub(crate) fn choose<T: AtomicInteger>(
+pub fn choose<T: AtomicInteger>(
     party: &mut Party<T>,
     choice: Option<T>,
 ) -> Result<(Act<T>, Then<T>), StepFault>

@@ -5,6 +5,9 @@ use Rattle.text_advice.proofs.question.list_shapes.Goals as goal
 pub returns : goal.returns
 unfolding meaning.shapes
 returns c =
-    subst (λ (l : List ℕ). OnOk c.list_answers.result (c.list_answers.new.out.items ≡ l))
-    (ap (λ (l : List ℕ). l ++ meaning.shapes_of_items c.args.object) (c.in_ok-extend_from_slice.ensures.items ∙ ap (λ (l : List ℕ). c.args.out.now.items ++ l) c.numbers_of_calls.ensures) ∙ append_assoc c.args.out.now.items (meaning.numbers_of_calls c.args.object) (meaning.shapes_of_items c.args.object))
-    c.list_answers.ensures
+    let out = c.args.out.now.items in
+    let numbers = meaning.numbers_of_calls c.args.object in
+    subst (λ (l : List ℕ). OnOk c.add_between.result (c.add_between.new.out.items ≡ l))
+    (ap (λ (l : List ℕ). l ++ meaning.shapes_of_items c.answers_of.result.now) (c.in_ok-extend_from_slice.ensures.items ∙ ap (λ (l : List ℕ). out ++ l) c.numbers_of_calls.ensures) ∙ ap (λ (l : List ℕ). (out ++ numbers) ++ meaning.shapes_of_items l) c.answers_of.ensures
+    ∙ append_assoc out numbers (meaning.shapes_of_items (meaning.answers_of c.args.object)))
+    c.add_between.ensures
