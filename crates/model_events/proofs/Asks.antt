@@ -1,20 +1,7 @@
 -- When a wait closure is asked, from the step at each place.
 use Rattle.std.proofs.Common.{◌≡◌, ◌≤◌, ℕ, ◌+◌, ◌-◌, refl, ◌∙◌, Bool, true, false, cond, List, [], ◌∷◌, Option, Some, None, arith}
 use Rattle.std.specs.Prelude.{nat_lt, MatchOption}
-use Rattle.model_events.specs.declared.event.Act.{Act}
-use Rattle.model_events.specs.declared.event.Event.{Event}
-use Rattle.model_events.specs.declared.event.Answer.{Answer}
-use Rattle.model_events.specs.declared.event.Then.{Then}
-use Rattle.model_events.specs.declared.hold.HoldKind.{HoldKind}
-use Rattle.model_events.specs.declared.patience.Patience.{Patience}
-use Rattle.model_events.specs.declared.row.After.{After}
-use Rattle.model_events.specs.Arithmetic.{Arithmetic}
-use Rattle.model_events.specs.Rows.{refused, within, outcome_of}
-use Rattle.model_events.specs.Tables.{Table}
-use Rattle.model_events.specs.Past.{PendingCall, call_of, hold_of}
-use Rattle.model_events.specs.Runs.{IsPast}
-use Rattle.model_events.specs.Sights.{keeps_asking, spins_in}
-use Rattle.model_events.specs.Asks.{WhereAsked, SpinCount, SpinsNoMore, but_last_try, Waiting, WaitsAs}
+use Rattle.model_events.specs.Exports.{Act, Event, Answer, Then, HoldKind, Patience, After, Arithmetic, refused, within, outcome_of, Table, PendingCall, call_of, hold_of, IsPast, keeps_asking, spins_in, WhereAsked, SpinCount, SpinsNoMore, but_last_try, Waiting, WaitsAs}
 use Rattle.model_events.proofs.Spins.{HasSpun, spins_spent}
 use Rattle.model_events.proofs.Parties.{IsKept, IsAtPlace, each_call}
 

@@ -2,16 +2,7 @@
 use Rattle.std.proofs.Common.{◌≡◌, ◌≢◌, ℕ, zero, ◌==◌, refl, sym, ◌∙◌, Bool, true, false, cond, List, [], ◌∷◌, Option, Some, None, arith}
 use Rattle.std.proofs.lemmas.Bool.{eq-eqb, eqb-true}
 use Rattle.std.proofs.lemmas.Bool.Decides.{nat_tests}
-use Rattle.model_events.specs.declared.event.Word.{Word}
-use Rattle.model_events.specs.declared.event.Call.{Call}
-use Rattle.model_events.specs.declared.event.Act.{Act}
-use Rattle.model_events.specs.declared.event.Then.{Then}
-use Rattle.model_events.specs.declared.event.Event.{Event}
-use Rattle.model_events.specs.declared.hold.HoldKind.{HoldKind}
-use Rattle.model_events.specs.Tables.{Table}
-use Rattle.model_events.specs.Past.{Hold, PendingCall, call_of, call_after, holds_of, hold_among, hold_or, hold_after, without, with_hold, is_release, hold_taken}
-use Rattle.model_events.specs.Past.{event}
-use Rattle.model_events.specs.Laws.{IsExclusive}
+use Rattle.model_events.specs.Exports.{Word, Call, Act, Then, Event, HoldKind, Table, Hold, PendingCall, call_of, call_after, holds_of, hold_among, hold_or, hold_after, without, with_hold, is_release, hold_taken, event, IsExclusive}
 
 pub eqb_same : (p : ℕ) → (p == p) ≡ true
 eqb_same p = eq-eqb p p refl

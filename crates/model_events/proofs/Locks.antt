@@ -2,18 +2,7 @@
 use Rattle.std.proofs.Common.{◌≡◌, ◌≢◌, ℕ, zero, suc, ◌<◌, ◌==◌, refl, sym, ◌∙◌, ap, subst, Bool, true, false, cond, is_some, List, [], ◌∷◌, Option, Some, None, ◌⊎◌, inl, inr, get_or, ◌↔◌, arith}
 use Rattle.std.specs.Prelude.{Contains}
 use Rattle.std.proofs.lemmas.Bool.{eqb-true}
-use Rattle.model_events.specs.declared.event.Word.{Word}
-use Rattle.model_events.specs.declared.event.Act.{Act}
-use Rattle.model_events.specs.declared.event.Event.{Event}
-use Rattle.model_events.specs.declared.hold.HoldKind.{HoldKind}
-use Rattle.model_events.specs.declared.row.Intent.{Intent}
-use Rattle.model_events.specs.Arithmetic.{Arithmetic}
-use Rattle.model_events.specs.Rows.{carried_out}
-use Rattle.model_events.specs.Tables.{Table}
-use Rattle.model_events.specs.Past.{Hold, PendingCall, call_of, holds_of, hold_of, hold_among, word_in, word_after, without, with_hold, is_release, hold_taken}
-use Rattle.model_events.specs.Moves.{Move, stage_of}
-use Rattle.model_events.specs.Runs.{IsPast}
-use Rattle.model_events.specs.Laws.{IsExclusive, IsLocked}
+use Rattle.model_events.specs.Exports.{Word, Act, Event, HoldKind, Intent, Arithmetic, carried_out, Table, Hold, PendingCall, call_of, holds_of, hold_of, hold_among, word_in, word_after, without, with_hold, is_release, hold_taken, Move, stage_of, IsPast, IsExclusive, IsLocked}
 use Rattle.model_events.proofs.Steps.{by_move}
 
 -- what a step of such an object may do to the lock's word: take the lock, as far as its call grants a write hold, or release it with a hold

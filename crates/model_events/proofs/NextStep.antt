@@ -1,24 +1,7 @@
 -- That each step of a run is its call's next, from the step at each place.
 use Rattle.std.proofs.Common.{◌≡◌, ◌∙◌, ℕ, ◌+◌, ◌≤◌, ◌<◌, refl, Bool, true, false, cond, List, [], ◌∷◌, Option, Some, None, arith}
 use Rattle.std.specs.Prelude.{nat_lt, MatchBool, MatchOption}
-use Rattle.model_events.specs.declared.WaitAction.{WaitAction}
-use Rattle.model_events.specs.declared.event.Word.{Word}
-use Rattle.model_events.specs.declared.event.Call.{Call}
-use Rattle.model_events.specs.declared.event.Act.{Act}
-use Rattle.model_events.specs.declared.event.Event.{Event}
-use Rattle.model_events.specs.declared.event.Then.{Then}
-use Rattle.model_events.specs.declared.event.Answer.{Answer}
-use Rattle.model_events.specs.declared.hold.HoldKind.{HoldKind}
-use Rattle.model_events.specs.declared.patience.Patience.{Patience}
-use Rattle.model_events.specs.declared.row.After.{After}
-use Rattle.model_events.specs.Arithmetic.{Arithmetic}
-use Rattle.model_events.specs.Rows.{carried_out, value_told, outcome_of, place_after, within, refused}
-use Rattle.model_events.specs.Tables.{Table}
-use Rattle.model_events.specs.Past.{PendingCall, call_of, hold_of, word_in}
-use Rattle.model_events.specs.Moves.{Move, stage_of, step_at, is_step}
-use Rattle.model_events.specs.Runs.{IsPast}
-use Rattle.model_events.specs.Sights.{acts_in, spins_in}
-use Rattle.model_events.specs.NextStep.{StepsAs, refused_waiting, EndsWithin}
+use Rattle.model_events.specs.Exports.{WaitAction, Word, Call, Act, Event, Then, Answer, HoldKind, Patience, After, Arithmetic, carried_out, value_told, outcome_of, place_after, within, refused, Table, PendingCall, call_of, hold_of, word_in, Move, stage_of, step_at, is_step, IsPast, acts_in, spins_in, StepsAs, refused_waiting, EndsWithin}
 use Rattle.model_events.proofs.Steps.{by_move, carried_is_step}
 use Rattle.model_events.proofs.Spins.{HasSpun}
 use Rattle.model_events.proofs.Parties.{IsKept, IsAtPlace, at_place, each_call}

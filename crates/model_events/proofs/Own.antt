@@ -3,15 +3,7 @@ use Rattle.std.proofs.Common.{◌≡◌, ◌≢◌, ℕ, ◌≤◌, ◌<◌, ◌
 use Rattle.std.specs.Prelude.{MatchBool}
 use Rattle.std.proofs.lemmas.Bool.{eq-eqb}
 use Rattle.std.proofs.lemmas.Bool.Decides.{eqb_tells}
-use Rattle.model_events.specs.declared.event.Act.{Act}
-use Rattle.model_events.specs.declared.event.Event.{Event}
-use Rattle.model_events.specs.declared.event.Then.{Then}
-use Rattle.model_events.specs.Arithmetic.{Arithmetic}
-use Rattle.model_events.specs.Tables.{Table}
-use Rattle.model_events.specs.Past.{PendingCall, call_of, call_after, call_going_on, word_in}
-use Rattle.model_events.specs.Runs.{IsPast}
-use Rattle.model_events.specs.Sights.{AtLast, is_beginning, acts_in, last_of}
-use Rattle.model_events.specs.Laws.{IsTold}
+use Rattle.model_events.specs.Exports.{Act, Event, Then, Arithmetic, Table, PendingCall, call_of, call_after, call_going_on, word_in, IsPast, AtLast, is_beginning, acts_in, last_of, IsTold}
 use Rattle.model_events.proofs.Holds.{some_same, eqb_other}
 use Rattle.model_events.proofs.Steps.{tells_memory}
 

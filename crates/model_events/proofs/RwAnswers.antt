@@ -1,20 +1,6 @@
 -- A lock with read and write holds answers by the hold: from its step at each place.
 use Rattle.std.proofs.Common.{◌≡◌, refl, sym, ◌∙◌, ap, subst, ℕ, Bool, true, false, cond, List, [], ◌∷◌, Option, Some, None}
-use Rattle.model_events.specs.declared.event.Word.{Word}
-use Rattle.model_events.specs.declared.event.Call.{Call}
-use Rattle.model_events.specs.declared.event.Act.{Act}
-use Rattle.model_events.specs.declared.event.Answer.{Answer}
-use Rattle.model_events.specs.declared.event.Event.{Event}
-use Rattle.model_events.specs.declared.event.Then.{Then}
-use Rattle.model_events.specs.declared.hold.HoldKind.{HoldKind}
-use Rattle.model_events.specs.declared.row.After.{After}
-use Rattle.model_events.specs.Arithmetic.{Arithmetic}
-use Rattle.model_events.specs.Rows.{outcome_of, place_after}
-use Rattle.model_events.specs.Tables.{Table}
-use Rattle.model_events.specs.Past.{PendingCall, call_of, hold_of, hold_after, word_in, event}
-use Rattle.model_events.specs.Moves.{Move, stage_of, step_at}
-use Rattle.model_events.specs.Runs.{IsPast}
-use Rattle.model_events.specs.RwAnswers.{kind_wanted, acts_of, IsRwAnswer, IsAnswered, AnswersByHold}
+use Rattle.model_events.specs.Exports.{Word, Call, Act, Answer, Event, Then, HoldKind, After, Arithmetic, outcome_of, place_after, Table, PendingCall, call_of, hold_of, hold_after, word_in, event, Move, stage_of, step_at, IsPast, kind_wanted, acts_of, IsRwAnswer, IsAnswered, AnswersByHold}
 use Rattle.model_events.proofs.Holds.{hold_of_same}
 use Rattle.model_events.proofs.Steps.{by_move}
 

@@ -2,18 +2,7 @@
 use Rattle.std.proofs.Common.{◌≡◌, ◌∙◌, ℕ, ◌+◌, ◌≤◌, refl, Bool, true, false, cond, ◌&&◌, List, [], ◌∷◌, Some, None, arith}
 use Rattle.std.specs.Prelude.{nat_lt, MatchBool}
 use Rattle.std.proofs.lemmas.Bool.Decides.{nat_tests}
-use Rattle.model_events.specs.declared.WaitAction.{WaitAction}
-use Rattle.model_events.specs.declared.event.Act.{Act}
-use Rattle.model_events.specs.declared.event.Event.{Event}
-use Rattle.model_events.specs.declared.event.Then.{Then}
-use Rattle.model_events.specs.declared.event.Answer.{Answer}
-use Rattle.model_events.specs.declared.patience.Patience.{Patience}
-use Rattle.model_events.specs.declared.row.After.{After}
-use Rattle.model_events.specs.Rows.{is_continue, answered, refused, within, outcome_of, place_after}
-use Rattle.model_events.specs.Past.{event}
-use Rattle.model_events.specs.Moves.{answer_fault}
-use Rattle.model_events.specs.Sights.{keeps_asking, spins_in, is_abort, stands_at_wait}
-use Rattle.model_events.specs.Laws.{is_refusal}
+use Rattle.model_events.specs.Exports.{WaitAction, Act, Event, Then, Answer, Patience, After, is_continue, answered, refused, within, outcome_of, place_after, event, answer_fault, keeps_asking, spins_in, is_abort, stands_at_wait, is_refusal}
 
 -- the own events of a call whose place has this patience, where such acts are tries in vain
 pub record HasSpun {T : Type 0} (in_vain : Act T → Bool) (patience : Patience) (own : List (Event T)) : Type 0 where

@@ -1,22 +1,7 @@
 -- What an event is, at any table: by its input, with the form of its input, and telling what the memory holds.
 use Rattle.std.proofs.Common.{◌≡◌, refl, sym, ◌∙◌, subst, ℕ, Bool, true, false, cond, ◌&&◌, List, [], ◌∷◌, Option, Some, None}
 use Rattle.std.specs.Prelude.{not}
-use Rattle.model_events.specs.declared.WaitAction.{WaitAction}
-use Rattle.model_events.specs.declared.event.Word.{Word}
-use Rattle.model_events.specs.declared.event.Call.{Call}
-use Rattle.model_events.specs.declared.event.Act.{Act}
-use Rattle.model_events.specs.declared.event.Event.{Event}
-use Rattle.model_events.specs.declared.event.Input.{Input}
-use Rattle.model_events.specs.declared.event.Then.{Then}
-use Rattle.model_events.specs.declared.hold.HoldKind.{HoldKind}
-use Rattle.model_events.specs.declared.row.Intent.{Intent}
-use Rattle.model_events.specs.Arithmetic.{Arithmetic}
-use Rattle.model_events.specs.Rows.{carried_out, value_told, place_after}
-use Rattle.model_events.specs.Tables.{Table}
-use Rattle.model_events.specs.Past.{PendingCall, same_word, word_after, call_of, call_going_on, hold_of, word_in}
-use Rattle.model_events.specs.Moves.{HasForm, Move, stage_of, stage_after, step_at, step_of, move_of, is_step}
-use Rattle.model_events.specs.Runs.{IsPast}
-use Rattle.model_events.specs.Laws.{IsTold, TellsMemory, is_apart, Lacks}
+use Rattle.model_events.specs.Exports.{WaitAction, Word, Call, Act, Event, Input, Then, HoldKind, Intent, Arithmetic, carried_out, value_told, place_after, Table, PendingCall, same_word, word_after, call_of, call_going_on, hold_of, word_in, HasForm, Move, stage_of, stage_after, step_at, step_of, move_of, is_step, IsPast, IsTold, TellsMemory, is_apart, Lacks}
 
 -- A step that is carried out.
 

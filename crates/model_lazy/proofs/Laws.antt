@@ -2,25 +2,8 @@
 use Rattle.std.proofs.Common.{◌≡◌, ℕ, ◌≤◌, ◌==◌, refl, sym, ◌∙◌, ap, subst, Bool, true, false, cond, List, [], ◌∷◌, Option, Some, inl, inr, arith}
 use Rattle.std.specs.Prelude.{IfSome, MatchBool, MatchOption, not}
 use Rattle.std.proofs.lemmas.Bool.{eqb-true}
-use Rattle.model_events.specs.declared.event.Word.{Word}
-use Rattle.model_events.specs.declared.event.Call.{Call}
-use Rattle.model_events.specs.declared.event.Act.{Act}
-use Rattle.model_events.specs.declared.event.Answer.{Answer}
-use Rattle.model_events.specs.declared.event.Event.{Event}
-use Rattle.model_events.specs.declared.event.Then.{Then}
-use Rattle.model_events.specs.declared.hold.HoldKind.{HoldKind}
-use Rattle.model_events.specs.Arithmetic.{Arithmetic}
-use Rattle.model_events.specs.Rows.{carried_out, value_told, outcome_of, place_after}
-use Rattle.model_events.specs.Past.{same_word, PendingCall, call_of, hold_of, word_in, word_after, event}
-use Rattle.model_events.specs.Moves.{Move, step_at, is_step}
-use Rattle.model_events.specs.Runs.{IsPast}
-use Rattle.model_events.specs.Sights.{AtLast, is_exchange, last_of}
-use Rattle.model_events.specs.Laws.{IsTold, Lacks, is_refusal}
-use Rattle.model_events.proofs.Holds.{some_same, no_holds, exclusive_unheld}
-use Rattle.model_events.proofs.Steps.{by_move, tells_memory}
-use Rattle.model_events.proofs.Parties.{IsKept, at_place}
-use Rattle.model_events.proofs.NextStep.{steps_as}
-use Rattle.model_events.proofs.Own.{IsCallAfter, call_was}
+use Rattle.model_events.specs.Exports.{Word, Call, Act, Answer, Event, Then, HoldKind, Arithmetic, carried_out, value_told, outcome_of, place_after, same_word, PendingCall, call_of, hold_of, word_in, word_after, event, Move, step_at, is_step, IsPast, AtLast, is_exchange, last_of, IsTold, Lacks, is_refusal}
+use Rattle.model_events.proofs.Exports.{some_same, no_holds, exclusive_unheld, by_move, tells_memory, IsKept, at_place, steps_as, IsCallAfter, call_was}
 use Rattle.model_once.specs.declared.OncePlace.{OncePlace}
 use Rattle.model_once.specs.Table.{found_after}
 use Rattle.model_once.specs.Closures.{is_begin, is_end, is_load, begins_in, ends_in, has_tried, RunsOnce}

@@ -2,14 +2,8 @@
 use Rattle.std.proofs.lemmas.Bool.Decides.{nat_tests}
 use Rattle.model_mutex.specs.Names.{MatchBool, MatchOption, not, nat_lt, WaitAction, Word, Wake, Call, Act, Answer, Event, Then, HoldKind, After, Table, carried_out, value_told, outcome_of, place_after, Hold, same_word, PendingCall, call_of, holds_of, hold_of, hold_taken, hold_after, word_in, latest_outcome, event, Move, step_at, hold_fault, answer_fault, choose_fault, is_step, sight_of, is_sight, keeps_asking, HasAborted, spins_in, WhereAsked, Lacks, is_refusal, Patience}
 use Rattle.model_mutex.proofs.Names.{◌≡◌, ◌≢◌, ◌≤◌, ℕ, ◌==◌, refl, sym, ◌∙◌, ap, subst, Bool, true, false, cond, is_some, List, [], ◌∷◌, Option, Some, None, ◌↔◌, inl, inr, arith, ◌<◌, eqb-true, eqb-false}
-use Rattle.model_events.specs.Arithmetic.{Arithmetic}
-use Rattle.model_events.specs.Runs.{IsPast}
-use Rattle.model_events.proofs.NextStep.{Descends, ends_within}
-use Rattle.model_events.proofs.Holds.{eqb_same, hold_of_same, some_same}
-use Rattle.model_events.proofs.Steps.{by_move, tells_memory}
-use Rattle.model_events.proofs.Parties.{IsKept, at_place}
-use Rattle.model_events.proofs.Asks.{waits_first, waits_as, spins_no_more}
-use Rattle.model_events.proofs.Locks.{IsLock, IsLockIntent, IsFreeOrHeld, lock_word, lock_exclusive, locked_at, free_exactly}
+use Rattle.model_events.specs.Exports.{Arithmetic, IsPast}
+use Rattle.model_events.proofs.Exports.{Descends, ends_within, eqb_same, hold_of_same, some_same, by_move, tells_memory, IsKept, at_place, waits_first, waits_as, spins_no_more, IsLock, IsLockIntent, IsFreeOrHeld, lock_word, lock_exclusive, locked_at, free_exactly}
 use Rattle.model_mutex.specs.declared.MutexPlace.{MutexPlace}
 use Rattle.model_mutex.specs.Table.{mutex_table, mutex_begins, mutex_intent, mutex_after, mutex_answered, is_free}
 use Rattle.model_mutex.specs.Law.{LockCause, HasTried, answer_of, acts_of, IsLockAnswer, lock_spins, steps_on, IsLeftBy, MutexStep, KeepsMutex, mutex_most, mutex_waiting}

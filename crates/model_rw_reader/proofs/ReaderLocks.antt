@@ -1,8 +1,7 @@
 -- A lock of many readers or one writer: an object whose word counts read holds, and is 2^64 - 1 with the write hold.
 use Rattle.model_rw_reader.specs.Names.{Word, Act, Event, HoldKind, Intent, Arithmetic, carried_out, Table, Hold, PendingCall, call_of, holds_of, hold_of, hold_among, word_in, word_after, without, reads_in, writes_in, Move, stage_of, IsPast, IsExclusive}
 use Rattle.model_rw_reader.proofs.Names.{◌≡◌, ◌≢◌, ℕ, ◌+◌, ◌-◌, ◌%◌, ◌^◌, ◌<◌, ◌≤◌, ◌==◌, refl, sym, ◌∙◌, ap, subst, Bool, true, false, cond, is_some, length, List, [], ◌∷◌, Option, Some, None, ◌⊎◌, inl, inr, ◌↔◌, arith, eqb-true, by_move}
-use Rattle.model_events.proofs.HoldCounts.{IsOneEach, without_one_each, without_counts, counted_of, both_kinds, unwritten_exclusive, written_exclusive}
-use Rattle.model_events.proofs.Locks.{holds_after, without_only}
+use Rattle.model_events.proofs.Exports.{IsOneEach, without_one_each, without_counts, counted_of, both_kinds, unwritten_exclusive, written_exclusive, holds_after, without_only}
 use Rattle.model_rw_reader.specs.Law.{CountsHolds}
 
 -- what a step of such an object may do to the lock's word: enter as a reader or as the writer, as far as its call grants that hold and its party has none; leave, by its party's hold

@@ -5,5 +5,4 @@ pub use Rattle.std.proofs.lemmas.Bool.{lt-ltb, ltb-true, eqb-true}
 pub use Rattle.std.proofs.lemmas.Bool.Decides.{eqb_tells, nat_tests}
 pub use Rattle.std.proofs.lemmas.List.{take_more, length-replicate, set-get_or, take_all}
 pub use Rattle.std.proofs.lemmas.Option.{slice_get-get_or}
-pub use Rattle.model_events.proofs.Holds.{call_of_same, call_of_other, hold_of_same, hold_of_other, some_same}
-pub use Rattle.model_events.proofs.Steps.{lacked_word, carried_is_step, carried_goes_on, carried_stage, by_move}
+pub use Rattle.model_events.proofs.Exports.{call_of_same, call_of_other, hold_of_same, hold_of_other, some_same, lacked_word, carried_is_step, carried_goes_on, carried_stage, by_move}
