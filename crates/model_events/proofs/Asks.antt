@@ -1,7 +1,8 @@
 -- When a wait closure is asked, from the step at each place.
 use Rattle.std.proofs.Common.{◌≡◌, ◌≤◌, ℕ, ◌+◌, ◌-◌, refl, ◌∙◌, Bool, true, false, cond, List, [], ◌∷◌, Option, Some, None, arith}
 use Rattle.std.specs.Prelude.{nat_lt, MatchOption}
-use Rattle.model_events.specs.Exports.{Act, Event, Answer, Then, HoldKind, Patience, After, Arithmetic, refused, within, outcome_of, Table, PendingCall, call_of, hold_of, IsPast, keeps_asking, spins_in, WhereAsked, SpinCount, SpinsNoMore, but_last_try, Waiting, WaitsAs}
+use Rattle.model_events.specs.Exports.{Arithmetic, refused, within, outcome_of, Table, PendingCall, call_of, hold_of, IsPast, keeps_asking, spins_in, WhereAsked, SpinCount, SpinsNoMore, but_last_try, Waiting, WaitsAs}
+use Rattle.model_events.specs.Types.{Act, Event, Answer, Then, HoldKind, Patience, After}
 use Rattle.model_events.proofs.Spins.{HasSpun, spins_spent}
 use Rattle.model_events.proofs.Parties.{IsKept, IsAtPlace, each_call}
 

@@ -2,7 +2,8 @@
 use Rattle.std.proofs.Common.{◌≡◌, ◌≢◌, ℕ, zero, ◌==◌, refl, sym, ◌∙◌, Bool, true, false, cond, List, [], ◌∷◌, Option, Some, None, arith}
 use Rattle.std.proofs.lemmas.Bool.{eq-eqb, eqb-true}
 use Rattle.std.proofs.lemmas.Bool.Decides.{nat_tests}
-use Rattle.model_events.specs.Exports.{Word, Call, Act, Then, Event, HoldKind, Table, Hold, PendingCall, call_of, call_after, holds_of, hold_among, hold_or, hold_after, without, with_hold, is_release, hold_taken, event, IsExclusive}
+use Rattle.model_events.specs.Exports.{Table, Hold, PendingCall, call_of, call_after, holds_of, hold_among, hold_or, hold_after, without, with_hold, is_release, hold_taken, event, IsExclusive}
+use Rattle.model_events.specs.Types.{Word, Call, Act, Then, Event, HoldKind}
 
 pub eqb_same : (p : ℕ) → (p == p) ≡ true
 eqb_same p = eq-eqb p p refl

@@ -1,7 +1,8 @@
 -- What a call knows of a word by its last look: the word still holds what was seen, or another party has written it since.
 use Rattle.std.proofs.Common.{◌≡◌, ℕ, ◌==◌, refl, sym, ◌∙◌, ap, subst, Bool, true, false, cond, List, [], ◌∷◌, Option, Some, None, ◌⊎◌, inl, inr}
 use Rattle.std.specs.Prelude.{MatchBool}
-use Rattle.model_events.specs.Exports.{Word, Act, Call, Event, Then, Arithmetic, Table, PendingCall, same_word, word_after, word_in, call_of, call_after, call_going_on, IsPast, sight_of, is_sight, is_beginning, is_write, AtLastSight, OtherWroteSinceSight, IsTold}
+use Rattle.model_events.specs.Exports.{Arithmetic, Table, PendingCall, same_word, word_after, word_in, call_of, call_after, call_going_on, IsPast, sight_of, is_sight, is_beginning, is_write, AtLastSight, OtherWroteSinceSight, IsTold}
+use Rattle.model_events.specs.Types.{Word, Act, Call, Event, Then}
 use Rattle.model_events.proofs.Steps.{tells_memory}
 
 -- the latest of a call's own events is a look: it told this value and wrote nothing

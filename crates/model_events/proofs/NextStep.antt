@@ -1,7 +1,8 @@
 -- That each step of a run is its call's next, from the step at each place.
 use Rattle.std.proofs.Common.{◌≡◌, ◌∙◌, ℕ, ◌+◌, ◌≤◌, ◌<◌, refl, Bool, true, false, cond, List, [], ◌∷◌, Option, Some, None, arith}
 use Rattle.std.specs.Prelude.{nat_lt, MatchBool, MatchOption}
-use Rattle.model_events.specs.Exports.{WaitAction, Word, Call, Act, Event, Then, Answer, HoldKind, Patience, After, Arithmetic, carried_out, value_told, outcome_of, place_after, within, refused, Table, PendingCall, call_of, hold_of, word_in, Move, stage_of, step_at, is_step, IsPast, acts_in, spins_in, StepsAs, refused_waiting, EndsWithin}
+use Rattle.model_events.specs.Exports.{Arithmetic, carried_out, value_told, outcome_of, place_after, within, refused, Table, PendingCall, call_of, hold_of, word_in, Move, stage_of, step_at, is_step, IsPast, acts_in, spins_in, StepsAs, refused_waiting, EndsWithin}
+use Rattle.model_events.specs.Types.{WaitAction, Word, Call, Act, Event, Then, Answer, HoldKind, Patience, After}
 use Rattle.model_events.proofs.Steps.{by_move, carried_is_step}
 use Rattle.model_events.proofs.Spins.{HasSpun}
 use Rattle.model_events.proofs.Parties.{IsKept, IsAtPlace, at_place, each_call}

@@ -3,7 +3,8 @@ use Rattle.std.proofs.Common.{◌≡◌, ◌≢◌, ℕ, ◌≤◌, ◌<◌, ◌
 use Rattle.std.specs.Prelude.{MatchBool}
 use Rattle.std.proofs.lemmas.Bool.{eq-eqb}
 use Rattle.std.proofs.lemmas.Bool.Decides.{eqb_tells}
-use Rattle.model_events.specs.Exports.{Act, Event, Then, Arithmetic, Table, PendingCall, call_of, call_after, call_going_on, word_in, IsPast, AtLast, is_beginning, acts_in, last_of, IsTold}
+use Rattle.model_events.specs.Exports.{Arithmetic, Table, PendingCall, call_of, call_after, call_going_on, word_in, IsPast, AtLast, is_beginning, acts_in, last_of, IsTold}
+use Rattle.model_events.specs.Types.{Act, Event, Then}
 use Rattle.model_events.proofs.Holds.{some_same, eqb_other}
 use Rattle.model_events.proofs.Steps.{tells_memory}
 

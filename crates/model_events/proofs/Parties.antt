@@ -2,7 +2,8 @@
 use Rattle.std.proofs.Common.{◌≡◌, ◌≢◌, ℕ, ◌==◌, refl, sym, ◌∙◌, ap, subst, Bool, true, false, cond, is_some, List, [], ◌∷◌, Option, Some, None, ◌⊎◌, inl, inr}
 use Rattle.std.specs.Prelude.{nat_lt}
 use Rattle.std.proofs.lemmas.Bool.Decides.{eqb_tells}
-use Rattle.model_events.specs.Exports.{WaitAction, Word, Call, Act, Answer, Event, Input, StepFault, Then, HoldKind, After, Arithmetic, carried_out, value_told, outcome_of, place_after, Table, PendingCall, call_of, call_after, call_going_on, hold_of, hold_after, word_in, latest_outcome, event, Move, stage_of, next_stage, step_at, step_of, move_of, fault_at, fault_of, hold_fault, begin_fault, go_fault, answer_fault, choose_fault, CallValues, InputValues, IsNext, IsPast}
+use Rattle.model_events.specs.Exports.{Arithmetic, carried_out, value_told, outcome_of, place_after, Table, PendingCall, call_of, call_after, call_going_on, hold_of, hold_after, word_in, latest_outcome, event, Move, stage_of, next_stage, step_at, step_of, move_of, fault_at, fault_of, hold_fault, begin_fault, go_fault, answer_fault, choose_fault, CallValues, InputValues, IsNext, IsPast}
+use Rattle.model_events.specs.Types.{WaitAction, Word, Call, Act, Answer, Event, Input, StepFault, Then, HoldKind, After}
 use Rattle.model_events.proofs.Holds.{some_same, call_of_same, call_of_other, hold_of_same, hold_of_other}
 use Rattle.model_events.proofs.Steps.{by_move, carried_goes_on, carried_stage}
 

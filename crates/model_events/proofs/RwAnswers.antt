@@ -1,6 +1,7 @@
 -- A lock with read and write holds answers by the hold: from its step at each place.
 use Rattle.std.proofs.Common.{◌≡◌, refl, sym, ◌∙◌, ap, subst, ℕ, Bool, true, false, cond, List, [], ◌∷◌, Option, Some, None}
-use Rattle.model_events.specs.Exports.{Word, Call, Act, Answer, Event, Then, HoldKind, After, Arithmetic, outcome_of, place_after, Table, PendingCall, call_of, hold_of, hold_after, word_in, event, Move, stage_of, step_at, IsPast, kind_wanted, acts_of, IsRwAnswer, IsAnswered, AnswersByHold}
+use Rattle.model_events.specs.Exports.{Arithmetic, outcome_of, place_after, Table, PendingCall, call_of, hold_of, hold_after, word_in, event, Move, stage_of, step_at, IsPast, kind_wanted, acts_of, IsRwAnswer, IsAnswered, AnswersByHold}
+use Rattle.model_events.specs.Types.{Word, Call, Act, Answer, Event, Then, HoldKind, After}
 use Rattle.model_events.proofs.Holds.{hold_of_same}
 use Rattle.model_events.proofs.Steps.{by_move}
 

@@ -2,7 +2,8 @@
 use Rattle.std.proofs.Common.{◌≡◌, ◌∙◌, ℕ, ◌+◌, ◌≤◌, refl, Bool, true, false, cond, ◌&&◌, List, [], ◌∷◌, Some, None, arith}
 use Rattle.std.specs.Prelude.{nat_lt, MatchBool}
 use Rattle.std.proofs.lemmas.Bool.Decides.{nat_tests}
-use Rattle.model_events.specs.Exports.{WaitAction, Act, Event, Then, Answer, Patience, After, is_continue, answered, refused, within, outcome_of, place_after, event, answer_fault, keeps_asking, spins_in, is_abort, stands_at_wait, is_refusal}
+use Rattle.model_events.specs.Exports.{is_continue, answered, refused, within, outcome_of, place_after, event, answer_fault, keeps_asking, spins_in, is_abort, stands_at_wait, is_refusal}
+use Rattle.model_events.specs.Types.{WaitAction, Act, Event, Then, Answer, Patience, After}
 
 -- the own events of a call whose place has this patience, where such acts are tries in vain
 pub record HasSpun {T : Type 0} (in_vain : Act T → Bool) (patience : Patience) (own : List (Event T)) : Type 0 where

@@ -1,7 +1,8 @@
 -- What an event is, at any table: by its input, with the form of its input, and telling what the memory holds.
 use Rattle.std.proofs.Common.{◌≡◌, refl, sym, ◌∙◌, subst, ℕ, Bool, true, false, cond, ◌&&◌, List, [], ◌∷◌, Option, Some, None}
 use Rattle.std.specs.Prelude.{not}
-use Rattle.model_events.specs.Exports.{WaitAction, Word, Call, Act, Event, Input, Then, HoldKind, Intent, Arithmetic, carried_out, value_told, place_after, Table, PendingCall, same_word, word_after, call_of, call_going_on, hold_of, word_in, HasForm, Move, stage_of, stage_after, step_at, step_of, move_of, is_step, IsPast, IsTold, TellsMemory, is_apart, Lacks}
+use Rattle.model_events.specs.Exports.{Arithmetic, carried_out, value_told, place_after, Table, PendingCall, same_word, word_after, call_of, call_going_on, hold_of, word_in, HasForm, Move, stage_of, stage_after, step_at, step_of, move_of, is_step, IsPast, IsTold, TellsMemory, is_apart, Lacks}
+use Rattle.model_events.specs.Types.{WaitAction, Word, Call, Act, Event, Input, Then, HoldKind, Intent}
 
 -- A step that is carried out.
 

@@ -15,4 +15,3 @@ pub use Rattle.model_events.specs.RwSteps.{gives_up, open_at, reader_looked, Rea
 pub use Rattle.model_events.specs.Sights.{sight_of, is_sight, is_beginning, AtLast, AtLastSight, is_abort, keeps_asking, HasAborted, is_write, OtherWroteSinceSight, HasMissed, goes_on, stands_at_wait, spins_in, stands_in, is_exchange, exchanges_in, is_done_exchange, acts_in, last_of}
 pub use Rattle.model_events.specs.Tables.{Table}
 pub use Rattle.model_events.specs.WordsAt.{word_at}
-pub use Rattle.model_events.specs.Types.{WaitAction, Act, Answer, Call, Event, Input, Object, StepFault, Then, Wake, Word, HoldKind, Patience, After, Intent, Words}

@@ -2,7 +2,7 @@
 use Rattle.model_once.specs.Names.{IfSome, MatchBool, MatchOption, not, Word, Call, Act, Answer, Event, Then, After, Arithmetic, carried_out, value_told, outcome_of, place_after, same_word, PendingCall, call_of, hold_of, word_in, word_after, event, Move, step_at, is_step, IsPast, AtLast, last_of, StepsAs, Lacks, is_refusal}
 use Rattle.model_once.proofs.Names.{eqb-false, ◌≡◌, ℕ, ◌≤◌, ◌==◌, refl, sym, ◌∙◌, ap, subst, Bool, true, false, cond, List, [], ◌∷◌, Option, Some, None, arith, ◌<◌, eqb-true, some_same, no_holds, exclusive_unheld, by_move, tells_memory, own_among}
 use Rattle.std.proofs.lemmas.Bool.Decides.{nat_tests}
-use Rattle.model_events.specs.Exports.{WaitAction, HoldKind}
+use Rattle.model_events.specs.declared.{WaitAction.WaitAction, hold.HoldKind.HoldKind}
 use Rattle.model_events.proofs.Exports.{IsKept, at_place, both_kept, steps_as, Descends, ends_within}
 use Rattle.model_once.specs.declared.OncePlace.{OncePlace}
 use Rattle.model_once.specs.Table.{once_table, once_begins, once_intent, found_after, once_after}

@@ -2,7 +2,8 @@
 use Rattle.model_semaphore.specs.Names.{IfSome, MatchBool, MatchOption, not, is_some, nat_lt, ◌&&◌, Wake, Patience, WaitAction, Word, Call, Act, Answer, Event, Then, After, carried_out, value_told, outcome_of, place_after, within, same_word, PendingCall, call_of, hold_of, word_in, word_after, latest_outcome, event, Move, step_at, answer_fault, is_step, sight_of, is_sight, keeps_asking, HasAborted, last_of, WhereAsked, is_apart, Lacks, is_refusal}
 use Rattle.model_semaphore.proofs.Names.{◌≡◌, ℕ, ◌+◌, ◌-◌, ◌≤◌, ◌<◌, ◌%◌, ◌^◌, ◌==◌, refl, sym, ◌∙◌, ap, subst, Bool, true, false, cond, List, [], ◌∷◌, Option, Some, None, inl, inr, arith, eqb-true, eqb-false, begun_spun, HasSpun}
 use Rattle.std.proofs.lemmas.Bool.Decides.{nat_tests}
-use Rattle.model_events.specs.Exports.{HoldKind, Arithmetic, IsPast}
+use Rattle.model_events.specs.Exports.{Arithmetic, IsPast}
+use Rattle.model_events.specs.declared.{hold.HoldKind.HoldKind}
 use Rattle.model_events.proofs.Exports.{Descends, ends_within, some_same, eqb_same, no_holds, exclusive_unheld, by_move, tells_memory, IsKept, at_place, waits_first, waits_as, spins_no_more}
 use Rattle.model_semaphore.specs.declared.SemaphorePlace.{SemaphorePlace}
 use Rattle.model_semaphore.specs.Table.{semaphore_table, semaphore_begins, semaphore_intent, semaphore_after, semaphore_answered}

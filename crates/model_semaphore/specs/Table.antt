@@ -1,6 +1,7 @@
 -- The calls of a semaphore, step for step.
 use Rattle.model_semaphore.specs.Names.{ℕ, ◌-◌, ◌==◌, if◌then◌else◌, true, false, Option, Some, None, unwrap_or, WaitAction, Word, Wake, Call, Answer, Patience, After, within, refused, answered}
-use Rattle.model_events.specs.Exports.{Intent, Table}
+use Rattle.model_events.specs.Exports.{Table}
+use Rattle.model_events.specs.declared.{row.Intent.Intent}
 use Rattle.model_semaphore.specs.declared.SemaphorePlace.{SemaphorePlace}
 
 -- a call begins with all its spins, and asks until its closure answers Abort

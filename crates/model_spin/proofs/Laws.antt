@@ -2,7 +2,8 @@
 use Rattle.std.proofs.Common.{◌≡◌, ℕ, zero, suc, ◌==◌, refl, sym, ◌∙◌, ap, subst, Bool, true, false, cond, is_some, List, [], ◌∷◌, length, Option, Some, None, ◌⊎◌, inl, inr, arith, ◌≤◌, ◌<◌}
 use Rattle.std.specs.Prelude.{MatchBool, MatchOption, not}
 use Rattle.std.proofs.lemmas.Bool.{eqb-true}
-use Rattle.model_events.specs.Exports.{Word, Call, Act, Answer, Event, Then, HoldKind, After, Arithmetic, carried_out, value_told, outcome_of, place_after, Hold, same_word, PendingCall, call_of, holds_of, hold_of, hold_among, word_in, latest_outcome, event, Move, step_at, hold_fault, answer_fault, choose_fault, is_step, IsPast, Lacks, is_refusal}
+use Rattle.model_events.specs.Exports.{Arithmetic, carried_out, value_told, outcome_of, place_after, Hold, same_word, PendingCall, call_of, holds_of, hold_of, hold_among, word_in, latest_outcome, event, Move, step_at, hold_fault, answer_fault, choose_fault, is_step, IsPast, Lacks, is_refusal}
+use Rattle.model_events.specs.declared.{event.Act.Act, event.Answer.Answer, event.Call.Call, event.Event.Event, event.Then.Then, event.Word.Word, hold.HoldKind.HoldKind, row.After.After}
 use Rattle.model_events.proofs.Exports.{eqb_same, some_same, by_move, tells_memory, IsKept, at_place, steps_as, Descends, ends_within, IsLock, IsLockIntent, IsFreeOrHeld, holds_after, lock_word, lock_exclusive}
 use Rattle.model_spin.specs.declared.SpinPlace.{SpinPlace}
 use Rattle.model_spin.specs.Table.{spin_table, spin_begins, spin_intent, spin_after, is_free}

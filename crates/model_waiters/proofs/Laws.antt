@@ -3,7 +3,8 @@ use Rattle.std.proofs.Common.{◌≡◌, ℕ, ◌+◌, ◌==◌, ◌≤◌, ◌<
 use Rattle.std.specs.Prelude.{MatchBool}
 use Rattle.std.proofs.lemmas.Bool.{eqb-true, eqb-false}
 use Rattle.std.proofs.lemmas.Bool.Decides.{nat_tests}
-use Rattle.model_events.specs.Exports.{WaitAction, Input, Then, HoldKind, Arithmetic, is_refusal, Move, step_at, fault_at, call_after, hold_of, word_after, event, place_after, IsPast}
+use Rattle.model_events.specs.Exports.{Arithmetic, is_refusal, Move, step_at, fault_at, call_after, hold_of, word_after, event, place_after, IsPast}
+use Rattle.model_events.specs.declared.{WaitAction.WaitAction, event.Input.Input, event.Then.Then, hold.HoldKind.HoldKind}
 use Rattle.model_events.proofs.Exports.{no_holds, exclusive_unheld, steps_as, Descends, ends_within, IsKept, at_place, fault_at_none, by_move, tells_memory}
 use Rattle.model_condvar.specs.Table.{condvar_table}
 use Rattle.model_condvar.specs.Waiters.{counts_in, without, times, CountsWaiters}
