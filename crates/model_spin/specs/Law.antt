@@ -1,5 +1,5 @@
 -- What a spin lock keeps at every prefix of every run: one holder, who has the lock after each answer, and that a call which waits only spins.
-use Rattle.std.specs.Prelude.{◌≡◌, ◌≤◌, ℕ, ◌==◌, Bool, true, false, if◌then◌else◌, List, [], ◌∷◌, Option, Some, None, length, MatchBool, MatchOption}
+use Rattle.std.specs.Prelude.{◌≡◌, ◌≤◌, ℕ, ◌==◌, Bool, true, false, List, [], ◌∷◌, Option, Some, None, length, MatchBool, MatchOption, if◌then◌else◌}
 use Rattle.model_events.specs.Exports.{Hold, call_of, holds_of, word_in, is_step, AtLastSight, StepsAs, EndsWithin, IsLocked, Keeps}
 use Rattle.model_events.specs.declared.{event.Act.Act, event.Answer.Answer, event.Call.Call, event.Event.Event, event.Then.Then, event.Word.Word, hold.HoldKind.HoldKind}
 use Rattle.model_spin.specs.Table.{spin_table}

@@ -1,5 +1,5 @@
 -- The calls of a spin lock, step for step.
-use Rattle.std.specs.Prelude.{ℕ, Bool, true, false, ◌==◌, if◌then◌else◌, Option, Some, None}
+use Rattle.std.specs.Prelude.{ℕ, Bool, true, false, ◌==◌, Option, Some, None, if◌then◌else◌}
 use Rattle.model_events.specs.Exports.{Table}
 use Rattle.model_events.specs.declared.{event.Answer.Answer, event.Call.Call, event.Word.Word, hold.HoldKind.HoldKind, row.After.After, row.Intent.Intent}
 use Rattle.model_spin.specs.declared.SpinPlace.{SpinPlace}
