@@ -4,10 +4,8 @@ use Rattle.std.proofs.lemmas.List.{take_more, map-append, length-take, length-ta
 use Rattle.std.proofs.lemmas.Simd.{map-map}
 use Rattle.std.specs.List.{take-map}
 use Rattle.std.specs.Prelude.{string_bytes}
-use Rattle.model_events.specs.declared.event.Event.{Event}
-use Rattle.model_events.specs.declared.event.Object.{Object}
-use Rattle.model_events.specs.Arithmetic.{Arithmetic}
-use Rattle.model_events.specs.Runs.{after}
+use Rattle.model_events.specs.Exports.{Arithmetic, after}
+use Rattle.model_events.specs.declared.{event.Event.Event, event.Object.Object}
 use Rattle.sync_steps.specs.Machine.{Configuration, StandsAt}
 use Rattle.text_lines.specs.declared.header.Header.{Header}
 use Rattle.text_lines.specs.Lexer.{lines_of}

@@ -1,9 +1,8 @@
 -- What a picture keeps of a text: the first rows of its trace.
 use Rattle.std.specs.Prelude.{◌≡◌, ℕ, ◌-◌, List, [], ◌∷◌, ◌++◌, map, take, Option, Result, Ok, string_bytes}
-use Rattle.model_events.specs.declared.event.Event.{Event}
-use Rattle.model_events.specs.declared.hold.HoldKind.{HoldKind}
+use Rattle.model_events.specs.Exports.{Arithmetic}
+use Rattle.model_events.specs.declared.{event.Event.Event, hold.HoldKind.HoldKind}
 use Rattle.text_lines.specs.declared.fault.FaultyLine.{FaultyLine}
-use Rattle.model_events.specs.Arithmetic.{Arithmetic}
 use Rattle.text_lines.specs.Numerals.{Numerals}
 use Rattle.sync_play.specs.Text.{typed_output}
 use Rattle.text_trace.specs.Rows.{Entry, number_after}

@@ -1,72 +1,32 @@
 -- Who reads and writes the data words: only who has the lock, and a writer is alone.
-use Rattle.model_atomic.specs.Names.{MatchOption, not, Word, Call, Event, HoldKind, Arithmetic, Hold, PendingCall, call_of, holds_of, hold_of, hold_among, word_in, Move, step_at, IsPast, acts_in, CountsHolds}
-use Rattle.model_atomic.proofs.Names.{◌≡◌, ◌≢◌, ℕ, ◌<◌, ◌==◌, refl, sym, ◌∙◌, ap, subst, Bool, true, false, cond, is_some, List, [], ◌∷◌, Option, Some, None, inl, inr, arith, eqb-true, false≢true, counted_of, IsAtPlaceOrRests, each_rests, by_move}
+use Rattle.model_atomic.specs.Names.{MatchOption, Word, Event, HoldKind, Arithmetic, Hold, PendingCall, call_of, holds_of, hold_of, hold_among, word_in, Move, step_at, IsPast, acts_in, CountsHolds}
+use Rattle.model_atomic.proofs.Names.{◌≡◌, ◌≢◌, ℕ, ◌<◌, ◌==◌, refl, ◌∙◌, subst, true, false, is_some, List, [], ◌∷◌, Option, Some, None, arith, eqb-true, false≢true, counted_of, IsAtPlaceOrRests, each_rests, by_move, eqb-false, nat_tests}
 use Rattle.model_atomic.specs.declared.AtomicPlace.{AtomicPlace}
-use Rattle.model_atomic.specs.Register.{is_data_access, is_data_write}
-use Rattle.model_atomic.specs.Table.{atomic_grant, atomic_table}
-use Rattle.model_atomic.specs.Law.{AccessesUnderHold, IsAlone, is_load, accesses_to_write, WritesAlone, FewAccesses, RestsWithout}
+use Rattle.model_atomic.specs.Register.{is_data_access}
+use Rattle.model_atomic.specs.Table.{atomic_table}
+use Rattle.model_atomic.specs.Law.{AccessesUnderHold, IsAlone, accesses_to_write, WritesAlone, FewAccesses, RestsWithout}
 use Rattle.model_atomic.proofs.Places.{AtAtomic, HasNone, atomic_kept, here}
 use Rattle.model_atomic.proofs.Laws.{keeps_lock}
 
 -- beside the writer nobody has a hold
 pub alone : (w p q : ℕ) (holds : List Hold) → CountsHolds w holds → hold_among p holds ≡ Some HoldKind.Write → q ≢ p → hold_among q holds ≡ None
-alone w p q holds (inl read) held other = let unwritten = read.unwritten in let some = counted_of HoldKind.Write p holds held in absurd (omega (arith, unwritten, some))
-alone w p q holds (inr written) held other =
-    by_test (written.writer == p) (written.writer == q) refl refl (ap (hold_among p) (sym written.alone) ∙ held)
-  where
-    by_test : (b d : Bool) → (written.writer == p) ≡ b → (written.writer == q) ≡ d → cond b (Some HoldKind.Write) None ≡ Some HoldKind.Write → hold_among q holds ≡ None
-    by_test true true e f is = absurd (other (sym (eqb-true written.writer q f) ∙ eqb-true written.writer p e))
-    by_test true false e f is = ap (hold_among q) written.alone ∙ rw f refl
-    by_test false d e f is = absurd cc
+alone w p q holds h1 h2 h3 = grind (arith, nat_tests, eqb-true, eqb-false, counted_of)
 
 -- a call without the lock has read and written no data word
 untouched_outside : {T : Type 0} (z : Arithmetic T) (place : AtomicPlace T) (c : PendingCall T) → AtAtomic z place c None → acts_in is_data_access c.own ≡ 0
-untouched_outside z AtomicPlace.Look c at = at.2.untouched
-untouched_outside z (AtomicPlace.Enter seen to) c at = at.3.untouched
-untouched_outside z (AtomicPlace.Take call) c at = at.4.untouched
-untouched_outside z (AtomicPlace.Low call) c at = absurd (let no_grant = at.1 in let some = at.2.0 in cc)
-untouched_outside z (AtomicPlace.High call low) c at = absurd (let no_grant = at.1 in let some = at.2.0 in cc)
-untouched_outside z (AtomicPlace.Again old) c at = absurd (let held = at.1.held in cc)
-untouched_outside z (AtomicPlace.PutLow low high answer) c at = absurd (let held = at.held in cc)
-untouched_outside z (AtomicPlace.PutHigh high answer) c at = absurd (let held = at.held in cc)
-untouched_outside z (AtomicPlace.Leave answer) c at = absurd (let held = at.held in cc)
+untouched_outside z place c h1 = grind (arith, nat_tests, eqb-true, eqb-false)
 
 -- the step at a place reads or writes a data word only under a hold, and writes one only under the write hold;
 
 accessed_at :
     {T : Type 0} (z : Arithmetic T) (v : T) (place : AtomicPlace T) (c : PendingCall T) (hold : Option HoldKind) (memory : Word → ℕ) → AtAtomic z place c hold → is_data_access (step_at (atomic_table z v) place hold memory).act ≡ true →
     is_some hold ≡ true
-accessed_at z v AtomicPlace.Look c hold memory at is = absurd (false≢true is)
-accessed_at z v (AtomicPlace.Enter seen to) c hold memory at is = absurd (false≢true is)
-accessed_at z v (AtomicPlace.Take call) c hold memory at is = absurd (false≢true is)
-accessed_at z v (AtomicPlace.Low call) c hold memory at is = ap is_some at.1 ∙ at.2.0
-accessed_at z v (AtomicPlace.High call low) c hold memory at is = ap is_some at.1 ∙ at.2.0
-accessed_at z v (AtomicPlace.Again old) c hold memory at is = ap is_some at.1.held
-accessed_at z v (AtomicPlace.PutLow low high answer) c hold memory at is = ap is_some at.held
-accessed_at z v (AtomicPlace.PutHigh high answer) c hold memory at is = ap is_some at.held
-accessed_at z v (AtomicPlace.Leave answer) c hold memory at is = at.held
-
--- in a call that writes, reads one only so too
-writer_grant : {T : Type 0} (call : Call T) → is_some (atomic_grant call) ≡ true → not (is_load call) ≡ true → atomic_grant call ≡ Some HoldKind.Write
-writer_grant call grants writes = grind arith
-
-looked_to_write : {T : Type 0} (c : PendingCall T) (call : Call T) (hold : Option HoldKind) → c.call ≡ call → hold ≡ atomic_grant call → is_some (atomic_grant call) ≡ true → not (is_load c.call) ≡ true → hold ≡ Some HoldKind.Write
-looked_to_write {T} c call hold called held grants writes = held ∙ writer_grant call grants (subst (λ (k : Call T). not (is_load k) ≡ true) called writes)
+accessed_at z v place c hold memory h1 h2 = grind (arith, nat_tests, eqb-true, eqb-false)
 
 written_at :
     {T : Type 0} (z : Arithmetic T) (v : T) (place : AtomicPlace T) (c : PendingCall T) (hold : Option HoldKind) (memory : Word → ℕ) → AtAtomic z place c hold → accesses_to_write (step_at (atomic_table z v) place hold memory).act (Some c) ≡ true →
     hold ≡ Some HoldKind.Write
-written_at z v AtomicPlace.Look c hold memory at is = absurd (false≢true is)
-written_at z v (AtomicPlace.Enter seen to) c hold memory at is = absurd (false≢true is)
-written_at z v (AtomicPlace.Take call) c hold memory at is = absurd (false≢true is)
-written_at z v (AtomicPlace.Low call) c hold memory at is = looked_to_write c call hold at.0 at.1 at.2.0 is
-written_at z v (AtomicPlace.High call low) c hold memory at is = looked_to_write c call hold at.0 at.1 at.2.0 is
-written_at z v (AtomicPlace.Again old) c hold memory at is = at.1.held
-written_at z v (AtomicPlace.PutLow low high answer) c hold memory at is = at.held
-written_at z v (AtomicPlace.PutHigh high answer) c hold memory at is = at.held
-written_at z v (AtomicPlace.Leave answer) c None memory at is = absurd (let held = at.held in cc)
-written_at z v (AtomicPlace.Leave answer) c (Some HoldKind.Read) memory at is = absurd (false≢true is)
-written_at z v (AtomicPlace.Leave answer) c (Some HoldKind.Write) memory at is = absurd (false≢true is)
+written_at z v place c hold memory h1 h2 = grind (arith, nat_tests, eqb-true, eqb-false)
 
 pub accesses : {T : Type 0} (z : Arithmetic T) (v : T) (parties : ℕ) (past : List (Event T)) → IsPast z (atomic_table z v) parties past → AccessesUnderHold z v past
 accesses z v parties [] run = tt
@@ -80,15 +40,7 @@ accesses {T} z v parties (e ∷ past) run =
 -- a call has made few accesses
 
 few_at : {T : Type 0} (z : Arithmetic T) (place : AtomicPlace T) (c : PendingCall T) (hold : Option HoldKind) → AtAtomic z place c hold → acts_in is_data_access c.own < 5
-few_at z AtomicPlace.Look c hold at = let untouched = at.2.untouched in omega (arith, untouched)
-few_at z (AtomicPlace.Enter seen to) c hold at = let untouched = at.3.untouched in omega (arith, untouched)
-few_at z (AtomicPlace.Take call) c hold at = let untouched = at.4.untouched in omega (arith, untouched)
-few_at z (AtomicPlace.Low call) c hold at = let untouched = at.3.untouched in omega (arith, untouched)
-few_at z (AtomicPlace.High call low) c hold at = let looked = at.5 in omega (arith, looked)
-few_at z (AtomicPlace.Again old) c hold at = let looked = at.1.looked in omega (arith, looked)
-few_at z (AtomicPlace.PutLow low high answer) c hold at = let few = at.few in omega (arith, few)
-few_at z (AtomicPlace.PutHigh high answer) c hold at = let few = at.few in omega (arith, few)
-few_at z (AtomicPlace.Leave answer) c hold at = at.few
+few_at z place c hold h1 = grind (arith, nat_tests, eqb-true, eqb-false)
 
 pub few_accesses : {T : Type 0} (z : Arithmetic T) (v : T) (parties : ℕ) (past : List (Event T)) → IsPast z (atomic_table z v) parties past → FewAccesses past
 few_accesses {T} z v parties past run party = by_call (call_of party past) refl

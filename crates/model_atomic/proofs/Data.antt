@@ -1,6 +1,6 @@
 -- The data words and the register, at every prefix of every run.
 use Rattle.model_atomic.specs.Names.{MatchOption, not, WaitAction, Word, Call, Act, Answer, Event, Input, Then, HoldKind, After, Arithmetic, IsValue, IsClosed, carried_out, value_told, outcome_of, place_after, Table, Hold, PendingCall, call_of, call_after, call_going_on, latest_outcome, holds_of, hold_of, word_in, word_after, event, writes_in, Move, go_fault, stage_of, next_stage, step_at, fault_at, choose_fault, CallValues, InputValues, IsPast, CountsHolds, lets_readers_in}
-use Rattle.model_atomic.proofs.Names.{◌≡◌, ◌≢◌, ℕ, ◌+◌, ◌-◌, ◌^◌, ◌<◌, ◌==◌, refl, sym, ◌∙◌, ap, subst, Bool, true, false, cond, List, [], ◌∷◌, Option, Some, None, ◌⊎◌, inl, inr, arith, eqb-true, eqb_tells, some_same, call_of_same, call_of_other, eqb_same, counted_of, fault_at_none, by_move, carried_goes_on, carried_stage}
+use Rattle.model_atomic.proofs.Names.{◌≡◌, ◌≢◌, ℕ, ◌+◌, ◌-◌, ◌^◌, ◌<◌, ◌==◌, refl, sym, ◌∙◌, ap, subst, Bool, true, false, cond, List, [], ◌∷◌, Option, Some, None, ◌⊎◌, inl, inr, arith, eqb-true, eqb_tells, some_same, call_of_same, call_of_other, eqb_same, counted_of, fault_at_none, by_move, carried_goes_on, carried_stage, eqb-false, nat_tests}
 use Rattle.model_events.proofs.Locks.{holds_after}
 use Rattle.model_atomic.specs.declared.AtomicPlace.{AtomicPlace}
 use Rattle.model_atomic.specs.Register.{act_of, compared, choice_of, HasChosen, low_told, is_last, acted, register_after, answer_in, answer_of, acts_made}
@@ -49,20 +49,11 @@ DataAt z d owed (AtomicPlace.Leave answer) c = Tied z d × (owed ≡ Some answer
 
 -- a call without the lock knows nothing of the data
 outside : {T : Type 0} (z : Arithmetic T) (d : Data T) (owed : Option (Answer T)) (place : AtomicPlace T) (c : PendingCall T) → AtAtomic z place c None → DataAt z d owed place c
-outside z d owed AtomicPlace.Look c at = tt
-outside z d owed (AtomicPlace.Enter seen to) c at = tt
-outside z d owed (AtomicPlace.Take call) c at = tt
-outside z d owed (AtomicPlace.Low call) c at = absurd (let no_grant = at.1 in let some = at.2.0 in cc)
-outside z d owed (AtomicPlace.High call low) c at = absurd (let no_grant = at.1 in let some = at.2.0 in cc)
-outside z d owed (AtomicPlace.Again old) c at = absurd (let held = at.1.held in cc)
-outside z d owed (AtomicPlace.PutLow low high answer) c at = absurd (let held = at.held in cc)
-outside z d owed (AtomicPlace.PutHigh high answer) c at = absurd (let held = at.held in cc)
-outside z d owed (AtomicPlace.Leave answer) c at = absurd (let held = at.held in cc)
+outside z d owed place c h1 = grind (arith, nat_tests, eqb-true, eqb-false)
 
 -- where no writer may be the word says so
 unwritten_at : (w : ℕ) (holds : List Hold) → CountsHolds w holds → w < 2 ^ 64 - 2 → writes_in holds ≡ 0
-unwritten_at w holds (inl read) small = read.unwritten
-unwritten_at w holds (inr written) small = let full = written.is_full in absurd (omega (arith, full, small))
+unwritten_at w holds h1 h2 = grind (arith, nat_tests, eqb-true, eqb-false)
 
 -- what is so at a prefix, of the data and of each call under way
 pub record AtPrefix {T : Type 0} (z : Arithmetic T) (v : T) (past : List (Event T)) : Type 0 where
@@ -471,9 +462,7 @@ module _ {T : Type 0} (z : Arithmetic T) (v : T) (past : List (Event T)) (party 
 -- At every prefix.
 
 pub goes_free : {T : Type 0} (t : Table T (AtomicPlace T)) (pending : Option (PendingCall T)) (hold : Option HoldKind) (input : Input T) (c : PendingCall T) → fault_at t pending hold input ≡ None → input ≡ Input.Go → pending ≡ Some c → go_fault (latest_outcome c.own) ≡ None
-goes_free {T} t pending hold input c allowed goes called =
-    let free : fault_at t pending hold Input.Go ≡ None = subst (λ (i : Input T). fault_at t pending hold i ≡ None) goes allowed in
-    subst (λ (k : Option (PendingCall T)). fault_at t k hold Input.Go ≡ None) called free
+goes_free t pending hold input c h1 h2 h3 = grind (arith, nat_tests, eqb-true, eqb-false)
 
 moved_by : {T : Type 0} (z : Arithmetic T) → IsClosed z → (v : T) (parties : ℕ) (past : List (Event T)) (e : Event T) → AtPrefix z v past → IsPast z (atomic_table z v) parties (e ∷ past) → Moved z v past e.party (call_of e.party past) (record { act = e.act; outcome = e.then })
 moved_by {T} z closed v parties past e before run =
@@ -496,10 +485,7 @@ keeps z closed v parties [] is run = record { value = is; tied = λ none. is; ea
 keeps z closed v parties (e ∷ past) is run = next_prefix z v past e (moved_by z closed v parties past e (keeps z closed v parties past is run.1) run)
 
 says_so : {T : Type 0} (z : Arithmetic T) (v : T) (party : ℕ) (past : List (Event T)) (o : Then T) → Says z (data_at z v past) (answer_of z v party past) (call_of party past) o → AnswersAsRegister z v party past o
-says_so z v party past (Then.Answers answer) says = says
-says_so z v party past (Then.Chooses old) says = says
-says_so z v party past (Then.Waits seen) says = says
-says_so z v party past Then.GoesOn says = tt
+says_so z v party past o h1 = grind (arith, nat_tests, eqb-true, eqb-false)
 
 pub keeps_atomic : {T : Type 0} (z : Arithmetic T) → IsClosed z → (v : T) (parties : ℕ) (past : List (Event T)) → IsValue z v → IsPast z (atomic_table z v) parties past → KeepsAtomic z v past
 keeps_atomic {T} z closed v parties past is run =

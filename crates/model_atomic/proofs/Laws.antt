@@ -1,26 +1,16 @@
 -- An atomic keeps its law at every prefix of every run.
-use Rattle.model_atomic.specs.Names.{not, Word, Call, Answer, Event, HoldKind, Arithmetic, same_word, PendingCall, call_of, holds_of, hold_of, word_in, Move, step_at, outcome_of, After, IsPast, TellsMemory, IsExclusive, HasCause, is_refusal, Lacks, CountsHolds}
-use Rattle.model_atomic.proofs.Names.{◌≡◌, ℕ, refl, ◌∙◌, ap, false, List, [], ◌∷◌, Option, Some, None, inl, inr, by_move, tells_memory}
+use Rattle.model_atomic.specs.Names.{Word, Event, HoldKind, Arithmetic, same_word, PendingCall, call_of, holds_of, hold_of, word_in, Move, step_at, IsPast, TellsMemory, IsExclusive, HasCause, is_refusal, Lacks, CountsHolds}
+use Rattle.model_atomic.proofs.Names.{◌≡◌, ℕ, refl, ◌∙◌, false, List, [], ◌∷◌, Option, by_move, tells_memory, arith, eqb-true, eqb-false, nat_tests}
 use Rattle.model_rw_reader.proofs.ReaderLocks.{IsReaderLock, IsReaderIntent, reader_lock_word, reader_lock_exclusive}
 use Rattle.model_atomic.specs.declared.AtomicPlace.{AtomicPlace}
 use Rattle.model_atomic.specs.Law.{AtomicCause}
-use Rattle.model_atomic.specs.Table.{atomic_grant, knows, atomic_table}
-use Rattle.model_atomic.proofs.Places.{AtAtomic, here, knows_goes_on}
+use Rattle.model_atomic.specs.Table.{atomic_table}
+use Rattle.model_atomic.proofs.Places.{AtAtomic, here}
 
 -- The lock inside is a lock of many readers or one writer.
 
 reader_intent : {T : Type 0} (z : Arithmetic T) (v : T) (place : AtomicPlace T) (c : PendingCall T) (hold : Option HoldKind) → AtAtomic z place c hold → IsReaderIntent {T = T} ((atomic_table z v).grant c.call) hold ((atomic_table z v).intent place hold)
-reader_intent z v AtomicPlace.Look c hold at = tt
-reader_intent {T} z v (AtomicPlace.Enter seen to) c hold at = (at.1, inl (at.2.0, at.2.1, ap (λ (k : Call T). atomic_grant k) at.0))
-reader_intent {T} z v (AtomicPlace.Take call) c hold at = (at.1, inr (refl, refl, ap (λ (k : Call T). atomic_grant k) at.0 ∙ at.2))
-reader_intent z v (AtomicPlace.Low call) c hold at = tt
-reader_intent z v (AtomicPlace.High call low) c hold at = tt
-reader_intent z v (AtomicPlace.Again old) c hold at = tt
-reader_intent z v (AtomicPlace.PutLow low high answer) c hold at = tt
-reader_intent z v (AtomicPlace.PutHigh high answer) c hold at = tt
-reader_intent z v (AtomicPlace.Leave answer) c None at = let held = at.held in absurd cc
-reader_intent z v (AtomicPlace.Leave answer) c (Some HoldKind.Read) at = (refl, refl)
-reader_intent z v (AtomicPlace.Leave answer) c (Some HoldKind.Write) at = (refl, refl)
+reader_intent z v place c hold h1 = grind (arith, nat_tests, eqb-true, eqb-false)
 
 pub atomic_is_lock : {T : Type 0} (z : Arithmetic T) (v : T) (parties : ℕ) → IsReaderLock {T = T} z (atomic_table z v) parties
 atomic_is_lock z v parties =
@@ -41,22 +31,8 @@ keeps_lock z v parties past run =
 
 -- No call is refused.
 
-goes_on : {T : Type 0} (a : After T (AtomicPlace T)) → ((answer : Answer T) → a ≡ After.Ends answer → ⊥) → is_refusal (outcome_of a) ≡ false
-goes_on (After.At place) on = refl
-goes_on (After.Waits place seen) on = refl
-goes_on (After.Chooses place old) on = refl
-goes_on (After.Ends answer) on = absurd (on answer refl)
-
 unrefused_at : {T : Type 0} (z : Arithmetic T) (v : T) (place : AtomicPlace T) (c : PendingCall T) (hold : Option HoldKind) (memory : Word → ℕ) → AtAtomic z place c hold → is_refusal (step_at (atomic_table z v) place hold memory).outcome ≡ false
-unrefused_at z v AtomicPlace.Look c hold memory at = refl
-unrefused_at z v (AtomicPlace.Enter seen to) c hold memory at = refl
-unrefused_at z v (AtomicPlace.Take call) c hold memory at = refl
-unrefused_at z v (AtomicPlace.Low call) c hold memory at = refl
-unrefused_at z v (AtomicPlace.High call low) c hold memory at = goes_on (knows z call (z.of_words low (memory Word.High))) (λ answer is. knows_goes_on z call _ answer is)
-unrefused_at z v (AtomicPlace.Again old) c hold memory at = refl
-unrefused_at z v (AtomicPlace.PutLow low high answer) c hold memory at = refl
-unrefused_at z v (AtomicPlace.PutHigh high answer) c hold memory at = refl
-unrefused_at z v (AtomicPlace.Leave answer) c hold memory at = at.said
+unrefused_at z v place c hold memory h1 = grind (arith, nat_tests, eqb-true, eqb-false)
 
 pub causes : {T : Type 0} (z : Arithmetic T) (v : T) (parties : ℕ) (past : List (Event T)) → IsPast z (atomic_table z v) parties past → HasCause AtomicCause past
 causes z v parties [] run = tt
@@ -71,14 +47,4 @@ causes {T} z v parties (e ∷ past) run =
 
 -- The words that an atomic does not have.
 pub atomic_lacks : {T : Type 0} (z : Arithmetic T) (v : T) (word : Word) → same_word Word.State word ≡ false → same_word Word.Low word ≡ false → same_word Word.High word ≡ false → Lacks (atomic_table z v) word
-atomic_lacks z v word state low high AtomicPlace.Look hold = ap not state
-atomic_lacks z v word state low high (AtomicPlace.Enter seen to) hold = ap not state
-atomic_lacks z v word state low high (AtomicPlace.Take call) hold = ap not state
-atomic_lacks z v word state low high (AtomicPlace.Low call) hold = ap not low
-atomic_lacks z v word state low high (AtomicPlace.High call told) hold = ap not high
-atomic_lacks z v word state low high (AtomicPlace.Again old) hold = ap not high
-atomic_lacks z v word state low high (AtomicPlace.PutLow l h answer) hold = ap not low
-atomic_lacks z v word state low high (AtomicPlace.PutHigh h answer) hold = ap not high
-atomic_lacks z v word state low high (AtomicPlace.Leave answer) None = ap not state
-atomic_lacks z v word state low high (AtomicPlace.Leave answer) (Some HoldKind.Read) = ap not state
-atomic_lacks z v word state low high (AtomicPlace.Leave answer) (Some HoldKind.Write) = ap not state
+atomic_lacks z v word h1 h2 h3 = grind (arith, nat_tests, eqb-true, eqb-false)

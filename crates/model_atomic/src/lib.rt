@@ -18,7 +18,7 @@ use std::alloc::AllocError;
 
 /// Where a party is in a call at an atomic; each place is named for its next step. It keeps what the call was begun with as long as the
 /// call needs it, and then the words that it stores and what it answers.
-#[derive(Copy)]
+#[derive(Copy, PartialEq, Eq)]
 pub enum AtomicPlace<T> {
     /// A load of the lock's word, in `Load`.
     Look,

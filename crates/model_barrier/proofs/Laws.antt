@@ -1,18 +1,8 @@
 -- A barrier keeps its law at every prefix of every run.
 use Rattle.model_barrier.specs.Names.{MatchBool, MatchOption, nat_lt, Word, Call, Act, Answer, Event, Then, After, carried_out, value_told, outcome_of, place_after, within, same_word, PendingCall, call_of, hold_of, word_in, word_after, event, Move, step_at, is_step, is_sight, AtLast, spins_in, last_of, StepsAs, seen_last, WhereAsked, Lacks, is_refusal}
-use Rattle.model_barrier.proofs.Names.{◌≡◌, ◌≢◌, ℕ, ◌+◌, ◌/◌, ◌%◌, ◌≤◌, ◌<◌, ◌^◌, ◌==◌, refl, sym, ◌∙◌, ap, subst, Bool, true, false, cond, List, [], ◌∷◌, Option, Some, None, ◌⊎◌, inl, inr, ◌↔◌, arith, eqb-true, eqb-false, eq-eqb, nat_tests}
-use Rattle.model_events.specs.declared.WaitAction.{WaitAction}
-use Rattle.model_events.specs.declared.hold.HoldKind.{HoldKind}
-use Rattle.model_events.specs.declared.patience.Patience.{Patience}
-use Rattle.model_events.specs.Arithmetic.{Arithmetic}
-use Rattle.model_events.specs.Runs.{IsPast}
-use Rattle.model_events.proofs.Holds.{eqb_other, no_holds, exclusive_unheld}
-use Rattle.model_events.proofs.Steps.{by_move, tells_memory}
-use Rattle.model_events.proofs.Spins.{spins_spent}
-use Rattle.model_events.proofs.Parties.{IsKept, at_place}
-use Rattle.model_events.proofs.Asks.{IsAskedAs, waits_first, waits_as, spins_no_more, both_kept}
-use Rattle.model_events.proofs.NextStep.{steps_as}
-use Rattle.model_events.proofs.Own.{IsToldOf, own_at_last, at_last_maps}
+use Rattle.model_barrier.proofs.Names.{◌≡◌, ◌≢◌, ℕ, ◌+◌, ◌/◌, ◌%◌, ◌≤◌, ◌<◌, ◌^◌, ◌==◌, refl, sym, ◌∙◌, ap, subst, Bool, true, false, cond, List, [], ◌∷◌, Option, Some, None, ◌⊎◌, inl, inr, ◌↔◌, arith, eqb-true, eqb-false, eq-eqb, nat_tests, eqb_other, no_holds, exclusive_unheld, by_move, tells_memory, spins_spent, IsKept, at_place, IsAskedAs, waits_first, waits_as, spins_no_more, both_kept, steps_as, IsToldOf, own_at_last, at_last_maps}
+use Rattle.model_events.specs.Exports.{Arithmetic, IsPast}
+use Rattle.model_events.specs.declared.{WaitAction.WaitAction, hold.HoldKind.HoldKind, patience.Patience.Patience}
 use Rattle.model_barrier.specs.declared.BarrierPlace.{BarrierPlace}
 use Rattle.model_barrier.specs.Rounds.{epoch_of, count_of, with_arrival, is_arrival, arrivals_in, round_of, full_rounds, IsFull, CountsArrivals}
 use Rattle.model_barrier.specs.Table.{barrier_table, barrier_begins, barrier_intent, barrier_after}
@@ -71,9 +61,7 @@ arrive_steps :
     {T : Type 0} (n m : ℕ) (c : PendingCall T) (hold : Option HoldKind) (seen to w number : ℕ) (outcome : Then T) (next : BarrierPlace) (done : Bool) → c.call ≡ Call.Wait → m ≡ n → count_of seen < n → arrivals_in c.own ≡ 0 →
     place_after {T = T} (cond done (joined_after seen (count_of seen + 1 == m)) (look_after m w (nat_lt (count_of w) m))) ≡ Some next →
     AtBarrier n next (record { call = c.call; own = event number (Act.Exchange Word.State seen to w done) outcome ∷ c.own }) hold
-arrive_steps n m c hold seen to w number outcome next true wait same below none is = joined_steps n m c hold seen to w number outcome next (count_of seen + 1 == m) wait same below refl is
-arrive_steps n m c hold seen to w number outcome next false wait same below none is =
-    look_steps n m c hold w (event number (Act.Exchange Word.State seen to w false) outcome) next (nat_lt (count_of w) m) wait same none refl refl is
+arrive_steps n m c hold seen to w number outcome next done h1 h2 h3 h4 h5 = grind (arith, nat_tests, eqb-true, eqb-false, joined_steps, look_steps)
 
 -- how a call that stays goes on, by two tests: it sees the epoch of its arrival, it has spins left
 abbrev stay_after : {T : Type 0} → ℕ → ℕ → ℕ → Bool → Bool → After T BarrierPlace
@@ -90,11 +78,7 @@ steps_at :
     {T : Type 0} (n : ℕ) (place : BarrierPlace) (c : PendingCall T) (hold left : Option HoldKind) (memory : Word → ℕ) (number : ℕ) (next : BarrierPlace) → AtBarrier n place c hold →
     place_after {T = T} (barrier_after place (value_told {T = T} (carried_out (barrier_intent Word.State place) memory))) ≡ Some next →
     AtBarrier n next (record { call = c.call; own = event number (step_at (barrier_table n) place hold memory).act (step_at (barrier_table n) place hold memory).outcome ∷ c.own }) left
-steps_at n (BarrierPlace.Look m) c hold left memory number next at is = look_steps n m c left (memory Word.State) _ next (nat_lt (count_of (memory Word.State)) m) at.0 at.1 at.2 refl refl is
-steps_at n (BarrierPlace.Arrive m seen to) c hold left memory number next at is = arrive_steps n m c left seen to (memory Word.State) number _ next (memory Word.State == seen) at.0 at.1 at.2 at.4 is
-steps_at n BarrierPlace.Wake c hold left memory number next at is = absurd cc
-steps_at n (BarrierPlace.Stay epoch spins) c hold left memory number next at is =
-    stay_steps n epoch spins c left (memory Word.State) number next (epoch_of (memory Word.State) == epoch) (nat_lt spins 10000) at refl is
+steps_at n place c hold left memory number next h1 h2 = grind (arith, nat_tests, eqb-true, eqb-false, look_steps, arrive_steps, stay_steps)
 
 -- Where an answer leads.
 
@@ -109,13 +93,7 @@ chooses_at :
 chooses_at n place c hold choice number h1 = grind (arith, nat_tests, eqb-true, eqb-false)
 
 pub barrier_kept : {T : Type 0} (n : ℕ) → IsKept {T = T} (barrier_table n) (AtBarrier n)
-barrier_kept n =
-    record {
-      begins = λ call place hold is allowed. begins_at n call place hold is;
-      steps = λ place c hold memory number next at free is. steps_at n place c hold _ memory number next at is;
-      answers = λ place c hold action number at stands. answers_at n place c hold action number at;
-      chooses = λ place c hold choice number at stands. chooses_at n place c hold choice number at;
-    }
+barrier_kept n = grind (arith, nat_tests, eqb-true, eqb-false, begins_at, steps_at, answers_at, chooses_at)
 
 -- No call goes on by itself more than 10000 times since its arrival.
 
@@ -372,15 +350,7 @@ stay_outcome epoch spins v same left = grind (arith, nat_tests, eqb-true, eqb-fa
 barrier_step :
     {T : Type 0} (n : ℕ) (place : BarrierPlace) (c : PendingCall T) (hold : Option HoldKind) (memory : Word → ℕ) → AtBarrier n place c hold × HasSeen place c hold →
     BarrierStep {T = T} n c.call c.own (step_at (barrier_table n) place hold memory).act (step_at (barrier_table n) place hold memory).outcome
-barrier_step n (BarrierPlace.Look m) c hold memory at =
-    rw (at.0.0, no_arrival c.own at.0.2, at.1) (refl, look_outcome m (memory Word.State) (nat_lt (count_of (memory Word.State)) m) ∙ ap (λ k. looked k (memory Word.State)) at.0.1)
-barrier_step n (BarrierPlace.Arrive m seen to) c hold memory at =
-    rw (at.0.0, no_arrival c.own at.0.4, at.1)
-    (refl, refl, at.0.3, arrive_outcome m seen (memory Word.State) (memory Word.State == seen) ∙ ap (λ k. cond (memory Word.State == seen) Then.GoesOn (looked k (memory Word.State))) at.0.1)
-barrier_step n BarrierPlace.Wake c hold memory at = rw (at.0.0, at.0.1.1.2, eq-eqb (count_of at.0.1.0 + 1) n at.0.1.2) (refl, refl)
-barrier_step n (BarrierPlace.Stay epoch spins) c hold memory at =
-    rw (at.0.0, at.0.1.1.2, eqb_other (count_of at.0.1.0 + 1) n (λ is. at.0.1.3 (sym is)), at.0.1.2, at.0.2)
-    (refl, stay_outcome epoch spins (memory Word.State) (epoch_of (memory Word.State) == epoch) (nat_lt spins 10000))
+barrier_step n place c hold memory h1 = grind (arith, nat_tests, eqb-true, eqb-false, no_arrival, look_outcome, arrive_outcome, eq-eqb, eqb_other, stay_outcome)
 
 each_steps : {T : Type 0} (z : Arithmetic T) (n parties : ℕ) (past : List (Event T)) → IsPast z (barrier_table n) parties past → StepsAs (BarrierStep n) past
 each_steps z n parties past run =

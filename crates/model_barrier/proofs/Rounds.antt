@@ -1,5 +1,5 @@
 -- Which round an arrival is in, and what the word tells of it.
-use Rattle.model_barrier.proofs.Names.{◌≡◌, ◌≢◌, ℕ, ◌+◌, ◌*◌, ◌/◌, ◌%◌, ◌^◌, ◌≤◌, ◌<◌, ◌==◌, refl, sym, ◌∙◌, ap, Bool, true, false, cond, add-mul, arith, eqb-true, nat_tests}
+use Rattle.model_barrier.proofs.Names.{◌≡◌, ◌≢◌, ℕ, ◌+◌, ◌*◌, ◌/◌, ◌%◌, ◌^◌, ◌≤◌, ◌<◌, ◌==◌, refl, ◌∙◌, Bool, true, false, cond, add-mul, arith, eqb-true, nat_tests, eqb-false}
 use Rattle.std.proofs.Math.Nat.{zero-div, zero-mod}
 use Rattle.std.proofs.lemmas.Nat.{div-add-mod', div-mul-add, mod-mul-add, mod_below, le-div, mul-le}
 use Rattle.model_barrier.specs.Rounds.{epoch_of, count_of, opened, with_arrival, CountsArrivals}
@@ -25,10 +25,7 @@ counts_none n = rw (zero-div n, zero-mod n) refl
 
 -- so many rounds and so many more
 packed : (n arrivals rounds rest w : ℕ) → rest < n → rounds * n + rest ≡ arrivals → w ≡ rounds % 2 ^ 32 * 2 ^ 32 + rest → CountsArrivals n arrivals w
-packed n arrivals rounds rest w below is word =
-    let quotient : arrivals / n ≡ rounds = ap (λ a. a / n) (sym is) ∙ div-mul-add rounds n rest below in
-    let remainder : arrivals % n ≡ rest = ap (λ a. a % n) (sym is) ∙ mod-mul-add rounds n rest below in
-    rw (quotient, remainder) word
+packed n arrivals rounds rest w h1 h2 h3 = grind (arith, nat_tests, eqb-true, eqb-false, div-mul-add, mod-mul-add)
 
 pub counts_more : (n arrivals w : ℕ) → n < 2 ^ 32 → count_of w < n → CountsArrivals n arrivals w → CountsArrivals n (arrivals + 1) (with_arrival n w)
 counts_more n arrivals w fits below counts = by_test (count_of w + 1 == n) refl
@@ -52,19 +49,12 @@ counts_more n arrivals w fits below counts = by_test (count_of w + 1 == n) refl
 
 -- where the word has another epoch than that from which a call arrived, the call's round is before the present one
 pub later_epoch : (n arrivals own w v : ℕ) → 0 < n → n < 2 ^ 32 → own < arrivals → CountsArrivals n arrivals w → CountsArrivals n own v → epoch_of w ≢ epoch_of v → own / n < arrivals / n
-later_epoch n arrivals own w v some fits before counts counted other =
-    let no_less : own / n ≤ arrivals / n = le-div (own / n) arrivals n some (omega (arith, div-add-mod' own n, before)) in
-    omega (arith, no_less, other, epoch_is n arrivals w some fits counts, epoch_is n own v some fits counted)
+later_epoch n arrivals own w v h1 h2 h3 h4 h5 h6 = grind (arith, nat_tests, eqb-true, eqb-false, le-div, div-add-mod', epoch_is)
 
 -- and so it is where the call's own arrival made n
 pub filled_round : (n arrivals own v : ℕ) → 0 < n → n < 2 ^ 32 → own < arrivals → CountsArrivals n own v → count_of v + 1 ≡ n → own / n < arrivals / n
-filled_round n arrivals own v some fits before counted fills =
-    let rest : own % n + 1 ≡ n = omega (arith, count_is n own v some fits counted, fills) in
-    let whole : (own / n + 1) * n ≤ arrivals = omega (arith, add-mul (own / n) 1 n, div-add-mod' own n, rest, before) in
-    omega (arith, le-div (own / n + 1) arrivals n some whole)
+filled_round n arrivals own v h1 h2 h3 h4 h5 = grind (arith, nat_tests, eqb-true, eqb-false, count_is, add-mul, div-add-mod', le-div)
 
 -- a round before the present one is full
 pub is_full : (n arrivals round : ℕ) → 0 < n → round < arrivals / n → (arrival : ℕ) → arrival / n ≡ round → arrival < arrivals
-is_full n arrivals round some before arrival is =
-    let fits : (arrival / n + 1) * n ≤ arrivals / n * n = mul-le (arrival / n + 1) n (arrivals / n) n (omega (arith, is, before)) (omega arith) in
-    omega (arith, fits, add-mul (arrival / n) 1 n, div-add-mod' arrival n, mod_below arrival n some, div-add-mod' arrivals n)
+is_full n arrivals round h1 h2 arrival h3 = grind (arith, nat_tests, eqb-true, eqb-false, mul-le, add-mul, div-add-mod', mod_below)

@@ -1,5 +1,5 @@
 -- Rounds: what a barrier's word says of them, and which round an arrival is in.
-use Rattle.model_barrier.specs.Names.{◌≡◌, ◌<◌, ℕ, ◌+◌, ◌*◌, ◌/◌, ◌%◌, ◌^◌, ◌==◌, if◌then◌else◌, Bool, List, Word, Act, Event, is_done_exchange, acts_in}
+use Rattle.model_barrier.specs.Names.{◌≡◌, ◌<◌, ℕ, ◌+◌, ◌*◌, ◌/◌, ◌%◌, ◌^◌, ◌==◌, Bool, List, Word, Act, Event, is_done_exchange, acts_in, if◌then◌else◌}
 
 -- The word.
 

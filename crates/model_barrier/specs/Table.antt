@@ -1,7 +1,7 @@
 -- The call of a barrier, step for step.
-use Rattle.model_barrier.specs.Names.{ℕ, ◌+◌, ◌*◌, ◌/◌, ◌%◌, ◌^◌, ◌==◌, nat_lt, if◌then◌else◌, true, false, Option, Some, None, unwrap_or, Word, Wake, Call, Answer, After, within, refused}
-use Rattle.model_events.specs.declared.row.Intent.{Intent}
-use Rattle.model_events.specs.Tables.{Table}
+use Rattle.model_barrier.specs.Names.{ℕ, ◌+◌, ◌*◌, ◌/◌, ◌%◌, ◌^◌, ◌==◌, nat_lt, true, false, Option, Some, None, unwrap_or, Word, Wake, Call, Answer, After, within, refused, if◌then◌else◌}
+use Rattle.model_events.specs.Exports.{Table}
+use Rattle.model_events.specs.declared.{row.Intent.Intent}
 use Rattle.model_barrier.specs.declared.BarrierPlace.{BarrierPlace}
 
 -- What the word says: in its upper half the epoch, in its lower how many have arrived.

@@ -59,7 +59,7 @@ pub fn count_of(word: u64) -> u64
 }
 
 /// Where a party is in its call at a barrier; each place is named for its next step.
-#[derive(Clone, Copy)]
+#[derive(Clone, Copy, PartialEq, Eq)]
 pub enum BarrierPlace {
     /// The load of a call that has not arrived.
     Look {

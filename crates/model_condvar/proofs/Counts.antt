@@ -1,8 +1,8 @@
 -- The waiter count and the parties that wait: each event changes both alike.
 use Rattle.model_condvar.specs.Names.{Word, Event, call_of, call_after, word_in, word_after}
-use Rattle.model_condvar.proofs.Names.{◌≡◌, ◌≢◌, ℕ, ◌+◌, ◌-◌, ◌%◌, ◌^◌, ◌==◌, refl, sym, ◌∙◌, subst, Bool, true, false, cond, List, [], ◌∷◌, length, ◌⊎◌, inl, inr, arith, eqb_tells, eqb_other}
+use Rattle.model_condvar.proofs.Names.{◌≡◌, ◌≢◌, ℕ, ◌+◌, ◌-◌, ◌%◌, ◌^◌, ◌==◌, refl, sym, ◌∙◌, subst, Bool, true, false, cond, List, [], ◌∷◌, length, ◌⊎◌, inl, inr, arith, eqb_tells, eqb_other, eqb-true, eqb-false, nat_tests}
 use Rattle.model_condvar.specs.Table.{condvar_table}
-use Rattle.model_condvar.specs.Waiters.{is_count, is_counted, without, times, waiting_after, CountsWaiters}
+use Rattle.model_condvar.specs.Waiters.{is_count, is_counted, without, times, CountsWaiters}
 
 -- what an event does to the count: nothing; or its call, which was not counted, adds itself; or it was, and subtracts itself
 abbrev pub CountEffect : ℕ → ℕ → Bool → Bool → Bool → Type 0
@@ -48,30 +48,4 @@ pub counts_after :
     {T : Type 0} (past : List (Event T)) (e : Event T) → CountsWaiters past →
     CountEffect (word_in condvar_table past Word.Waiters) (word_after Word.Waiters e.act (word_in condvar_table past Word.Waiters)) (is_count e.act) (is_counted (call_of e.party past)) (is_counted (call_after e.then e (call_of e.party past))) →
     CountsWaiters (e ∷ past)
-counts_after {T} past e before (inl quiet) = record { counts = rw quiet.0 (quiet.1 ∙ before.counts); exactly = λ q. by_party q (eqb_tells e.party q) }
-  where
-    by_party : (q : ℕ) → (((e.party == q) ≡ true) × (e.party ≡ q)) ⊎ (((e.party == q) ≡ false) × (e.party ≢ q)) → times q (waiting_after (e ∷ past)) ≡ cond (is_counted (call_of q (e ∷ past))) 1 0
-    by_party q (inl mine) =
-        let own : times e.party (waiting_after past) ≡ cond (is_counted (call_after e.then e (call_of e.party past))) 1 0 = rw quiet.2 (before.exactly e.party) in
-        rw (quiet.0, mine.0) (subst (λ n. times n (waiting_after past) ≡ cond (is_counted (call_after e.then e (call_of n past))) 1 0) mine.1 own)
-    by_party q (inr other) = rw (quiet.0, other.0) (before.exactly q)
-counts_after {T} past e before (inr (inl adds)) =
-    record { counts = rw (adds.0, adds.2) (adds.1 ∙ omega (arith, before.counts)); exactly = λ q. by_party q (eqb_tells e.party q) }
-  where
-    by_party : (q : ℕ) → (((e.party == q) ≡ true) × (e.party ≡ q)) ⊎ (((e.party == q) ≡ false) × (e.party ≢ q)) → times q (waiting_after (e ∷ past)) ≡ cond (is_counted (call_of q (e ∷ past))) 1 0
-    by_party q (inl mine) =
-        let was : times e.party (waiting_after past) ≡ cond (is_counted (call_of e.party past)) 1 0 = before.exactly e.party in
-        let none : times e.party (waiting_after past) ≡ 0 = rw adds.2 at was in
-        let own : 1 + times e.party (waiting_after past) ≡ cond (is_counted (call_after e.then e (call_of e.party past))) 1 0 = rw adds.3 (omega (arith, none)) in
-        rw (adds.0, adds.2, mine.0) (subst (λ n. 1 + times n (waiting_after past) ≡ cond (is_counted (call_after e.then e (call_of n past))) 1 0) mine.1 own)
-    by_party q (inr other) = rw (adds.0, adds.2, other.0) (omega (arith, before.exactly q))
-counts_after {T} past e before (inr (inr takes)) =
-    let was : times e.party (waiting_after past) ≡ cond (is_counted (call_of e.party past)) 1 0 = before.exactly e.party in
-    let one : times e.party (waiting_after past) ≡ 1 = rw takes.2 at was in
-    record { counts = rw (takes.0, takes.2) (takes.1 ∙ omega (arith, before.counts, one, shorter e.party (waiting_after past))); exactly = λ q. by_party q (eqb_tells e.party q) }
-  where
-    by_party : (q : ℕ) → (((e.party == q) ≡ true) × (e.party ≡ q)) ⊎ (((e.party == q) ≡ false) × (e.party ≢ q)) → times q (waiting_after (e ∷ past)) ≡ cond (is_counted (call_of q (e ∷ past))) 1 0
-    by_party q (inl mine) =
-        let own : times e.party (without e.party (waiting_after past)) ≡ cond (is_counted (call_after e.then e (call_of e.party past))) 1 0 = rw takes.3 (gone e.party (waiting_after past)) in
-        rw (takes.0, takes.2, mine.0) (subst (λ n. times n (without e.party (waiting_after past)) ≡ cond (is_counted (call_after e.then e (call_of n past))) 1 0) mine.1 own)
-    by_party q (inr other) = rw (takes.0, takes.2, other.0) (others_stay e.party q (waiting_after past) other.1 ∙ before.exactly q)
+counts_after past e h1 h2 = grind (arith, nat_tests, eqb-true, eqb-false, eqb_tells, shorter, gone, others_stay)

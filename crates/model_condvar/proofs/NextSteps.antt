@@ -1,14 +1,13 @@
 -- Each step of a condition variable is its call's next.
-use Rattle.model_condvar.specs.Names.{nat_lt, unwrap_or, MatchBool, WaitAction, Word, Wake, Call, Act, Answer, Event, Then, HoldKind, After, Arithmetic, carried_out, value_told, outcome_of, place_after, within, refused, PendingCall, event, latest_outcome, is_failure, step_at, answer_fault, choose_fault, is_step, IsPast, is_abort, keeps_asking, spins_in, StepsAs, EndsWithin, refused_waiting, step_before, Exchanges, MutexPlace, mutex_intent, mutex_after, acts_of, MutexStep, SemaphorePlace, look, is_empty_look}
-use Rattle.model_condvar.proofs.Names.{eqb-false, eqb-true, nat_tests, ◌≡◌, ℕ, ◌+◌, ◌-◌, ◌%◌, ◌^◌, ◌==◌, ◌&&◌, refl, sym, ◌∙◌, ap, subst, Bool, true, false, cond, List, [], ◌∷◌, Option, Some, None, ◌≤◌, ◌<◌, arith, some_same, HasSpun, IsKept, AtMutex, mutex_rest, not_asked, not_chosen}
+use Rattle.model_condvar.specs.Names.{WaitAction, Word, Wake, Call, Act, Answer, Event, Then, HoldKind, After, Arithmetic, carried_out, value_told, place_after, within, PendingCall, event, latest_outcome, step_at, answer_fault, choose_fault, is_step, IsPast, is_abort, keeps_asking, spins_in, StepsAs, EndsWithin, Exchanges, MutexPlace, SemaphorePlace, is_empty_look}
+use Rattle.model_condvar.proofs.Names.{eqb-false, eqb-true, nat_tests, ◌≡◌, ℕ, ◌+◌, ◌-◌, ◌%◌, ◌^◌, ◌==◌, ◌&&◌, refl, ◌∙◌, Bool, true, false, cond, List, [], ◌∷◌, Option, Some, None, ◌≤◌, ◌<◌, arith, IsKept, mutex_rest}
 use Rattle.model_events.specs.declared.patience.Patience.{Patience}
-use Rattle.model_events.proofs.NextStep.{steps_as, refused_left, Descends, ends_within}
-use Rattle.model_mutex.proofs.Laws as mutex
+use Rattle.model_events.proofs.NextStep.{steps_as, Descends, ends_within}
 use Rattle.model_condvar.specs.declared.CondvarPlace.{CondvarPlace}
-use Rattle.model_condvar.specs.Table.{condvar_begins, condvar_after, condvar_answered, condvar_table, permits_for, permitted, relocked}
-use Rattle.model_condvar.specs.Waiters.{counts_in, since_count}
-use Rattle.model_condvar.specs.Law.{takes_in, left_waiting, LooksForPermit, CountsOut, CountedStep, CountedNext, woken_with, NotifyNext, condvar_most, CondvarStep}
-use Rattle.model_condvar.proofs.Places.{AtCondvar, condvar_kept, within_goes_on, notify, took, amount_is, outcome_within}
+use Rattle.model_condvar.specs.Table.{condvar_begins, condvar_after, condvar_answered, condvar_table, permitted}
+use Rattle.model_condvar.specs.Waiters.{since_count}
+use Rattle.model_condvar.specs.Law.{left_waiting, LooksForPermit, CountsOut, CountedNext, condvar_most, CondvarStep}
+use Rattle.model_condvar.proofs.Places.{AtCondvar, condvar_kept}
 
 -- What the step at a place of a counted `Wait` is, by whether it keeps on asking and how often it has spun.
 abbrev Does : {T : Type 0} → CondvarPlace → Bool → ℕ → Act T → Then T → Type 0
@@ -45,14 +44,6 @@ look_after patience v gone keep left =
     (After.At (SemaphorePlace.Take v (v - 1) patience)))
 
 -- So it is kept of the call with one event more.
-
--- where it goes on within the wait, and stands only to look again
-abbrev StaysCounted : {T : Type 0} → After T CondvarPlace → Type 0
-StaysCounted (After.At (CondvarPlace.Permit (SemaphorePlace.Look patience))) = Unit {0}
-StaysCounted (After.At (CondvarPlace.Permit (SemaphorePlace.Take seen to patience))) = Unit {0}
-StaysCounted (After.At (CondvarPlace.CountOut signalled)) = Unit {0}
-StaysCounted (After.Waits (CondvarPlace.Permit (SemaphorePlace.Look patience)) told) = Unit {0}
-StaysCounted other = ⊥
 
 -- a step on the permits, of a call that asks so
 record IsStepOf {T : Type 0} (asks : Bool) (own : List (Event T)) (act : Act T) : Type 0 where

@@ -30,7 +30,7 @@ pub fn permits_for(wake: Wake, waiters: u64) -> u64
 }
 
 /// Where a party is in a call at a condition variable; each place is named for its next step.
-#[derive(Clone, Copy)]
+#[derive(Clone, Copy, PartialEq, Eq)]
 pub enum CondvarPlace {
     /// A step of the mutex, in `Lock`, `TryLock` or `Unlock`.
     Mutex(MutexPlace),

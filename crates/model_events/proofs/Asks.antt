@@ -1,40 +1,23 @@
 -- When a wait closure is asked, from the step at each place.
-use Rattle.std.proofs.Common.{◌≡◌, ◌≤◌, ℕ, ◌+◌, ◌-◌, refl, ◌∙◌, Bool, true, false, cond, List, [], ◌∷◌, Option, Some, None, arith}
-use Rattle.std.specs.Prelude.{nat_lt, MatchOption}
-use Rattle.model_events.specs.declared.event.Act.{Act}
-use Rattle.model_events.specs.declared.event.Event.{Event}
-use Rattle.model_events.specs.declared.event.Answer.{Answer}
-use Rattle.model_events.specs.declared.event.Then.{Then}
-use Rattle.model_events.specs.declared.hold.HoldKind.{HoldKind}
-use Rattle.model_events.specs.declared.patience.Patience.{Patience}
-use Rattle.model_events.specs.declared.row.After.{After}
-use Rattle.model_events.specs.Arithmetic.{Arithmetic}
-use Rattle.model_events.specs.Rows.{refused, within, outcome_of}
-use Rattle.model_events.specs.Tables.{Table}
-use Rattle.model_events.specs.Past.{PendingCall, call_of, hold_of}
-use Rattle.model_events.specs.Runs.{IsPast}
-use Rattle.model_events.specs.Sights.{keeps_asking, spins_in}
-use Rattle.model_events.specs.Asks.{WhereAsked, SpinCount, SpinsNoMore, but_last_try, Waiting, WaitsAs}
-use Rattle.model_events.proofs.Spins.{HasSpun, spins_spent}
+use Rattle.std.proofs.lemmas.Bool.{eqb-true, eqb-false}
+use Rattle.std.proofs.lemmas.Bool.Decides.{nat_tests}
+use Rattle.std.proofs.Common.{◌≡◌, ◌≤◌, ℕ, ◌+◌, ◌-◌, ◌∙◌, Bool, true, List, [], ◌∷◌, Option, Some, None, arith}
+use Rattle.std.specs.Prelude.{MatchOption}
+use Rattle.model_events.specs.Exports.{Arithmetic, refused, within, outcome_of, Table, PendingCall, call_of, hold_of, IsPast, keeps_asking, spins_in, WhereAsked, SpinCount, SpinsNoMore, but_last_try, Waiting, WaitsAs}
+use Rattle.model_events.specs.Types.{Act, Event, Then, HoldKind, Patience}
+use Rattle.model_events.proofs.Spins.{HasSpun}
 use Rattle.model_events.proofs.Parties.{IsKept, IsAtPlace, each_call}
 
 -- what is so of a call that asks may be told in other words
 pub asked_of :
     {T : Type 0} (P Q : PendingCall T → Act T → ℕ → Type 0) (c : PendingCall T) (act : Act T) → ((told : ℕ) → P c act told → Q c act told) → (outcome : Then T) → WhereAsked P (Some c) act outcome → WhereAsked Q (Some c) act outcome
-asked_of P Q c act maps (Then.Waits told) asked = maps told asked
-asked_of P Q c act maps Then.GoesOn asked = tt
-asked_of P Q c act maps (Then.Chooses old) asked = tt
-asked_of P Q c act maps (Then.Answers answer) asked = tt
+asked_of P Q c act h1 outcome h2 = grind (arith, nat_tests, eqb-true, eqb-false)
 
 -- and so of each call
 pub asked_maps :
     {T : Type 0} (P Q : PendingCall T → Act T → ℕ → Type 0) → ((c : PendingCall T) (act : Act T) (told : ℕ) → P c act told → Q c act told) →
     (pending : Option (PendingCall T)) (act : Act T) (outcome : Then T) → WhereAsked P pending act outcome → WhereAsked Q pending act outcome
-asked_maps P Q maps (Some c) act outcome asked = asked_of P Q c act (maps c act) outcome asked
-asked_maps P Q maps None act (Then.Waits told) asked = absurd asked
-asked_maps P Q maps None act Then.GoesOn asked = tt
-asked_maps P Q maps None act (Then.Chooses old) asked = tt
-asked_maps P Q maps None act (Then.Answers answer) asked = tt
+asked_maps P Q h1 pending act outcome h2 = grind (arith, nat_tests, eqb-true, eqb-false)
 
 -- what is so of a call where it asks, so that it waits as it should
 abbrev pub IsAskedAs : {T : Type 0} → Waiting T → PendingCall T → Act T → ℕ → Type 0
@@ -44,25 +27,13 @@ pub waits_first : {T : Type 0} (w : Waiting T) → WaitsAs {T = T} w []
 waits_first w = record { asks = tt; spins = λ party. tt; tells = tt; stops = tt }
 
 pub waits_as : {T : Type 0} (w : Waiting T) (past : List (Event T)) (e : Event T) → WhereAsked (IsAskedAs w) (call_of e.party past) e.act e.then → SpinsNoMore w.goes_on (e ∷ past) → WaitsAs w (e ∷ past)
-waits_as w past e asked spins =
-    record {
-      asks = asked_maps (IsAskedAs w) (λ c act told. w.spins c.call c.own ≡ 10000) (λ c act told so. so.0) (call_of e.party past) e.act e.then asked;
-      spins = spins;
-      tells = asked_maps (IsAskedAs w) (λ c act told. w.refusing c.call c.own act ≡ Some told) (λ c act told so. so.1) (call_of e.party past) e.act e.then asked;
-      stops = asked_maps (IsAskedAs w) (λ c act told. keeps_asking (w.wait c.call c.own) ≡ true) (λ c act told so. so.2) (call_of e.party past) e.act e.then asked;
-    }
+waits_as w past e h1 h2 = grind (arith, nat_tests, eqb-true, eqb-false)
 
 -- a refused call asks only after all its spins, and while it keeps on asking
 pub refused_asks :
     {T P : Type 0} (in_vain : Act T → Bool) (wrap : Patience → P) (patience : Patience) (seen : ℕ) (c : PendingCall T) (act : Act T) (Q : PendingCall T → Act T → ℕ → Type 0) → HasSpun in_vain patience c.own →
     (spins_in in_vain c.own ≡ 10000 → keeps_asking c.own ≡ true → Q c act seen) → WhereAsked Q (Some c) act (outcome_of (within wrap (refused {T = T} patience seen)))
-refused_asks {T} in_vain wrap patience seen c act Q so asked = by_tests patience.keep (nat_lt patience.spins 10000) refl refl
-  where
-    by_tests : (keep left : Bool) → patience.keep ≡ keep → nat_lt patience.spins 10000 ≡ left →
-        WhereAsked {T = T} Q (Some c) act (outcome_of (within wrap (cond keep (cond left (After.At (record { spins = patience.spins + 1; keep = patience.keep })) (After.Waits patience seen)) (After.Ends Answer.Interrupted))))
-    by_tests true true keeps spins = tt
-    by_tests true false keeps spins = asked (so.spun ∙ spins_spent patience.spins so.within_limit spins) (so.keeps ∙ keeps)
-    by_tests false left keeps spins = tt
+refused_asks in_vain wrap patience seen c act Q h1 h2 = grind (arith, nat_tests, eqb-true, eqb-false)
 
 -- no call spins more often, where none does at its place
 pub spins_no_more :
@@ -76,19 +47,9 @@ spins_no_more {T} z t parties At spins kept bounded past run party = by_call (ca
 
 -- and so with the last try of a call that gives up
 pub last_try_bounded : {T : Type 0} (own : List (Event T)) (spins : ℕ) → spins ≤ 10000 → but_last_try own spins ≤ 10000
-last_try_bounded own spins bounded = by_test (keeps_asking own)
-  where
-    by_test : (keep : Bool) → cond keep spins (spins - 1) ≤ 10000
-    by_test true = bounded
-    by_test false = omega (arith, bounded)
+last_try_bounded own spins h1 = grind (arith, nat_tests, eqb-true, eqb-false)
 
 -- two things are kept at each place, where each of them is
 pub both_kept :
     {T P : Type 0} (t : Table T P) (At Also : P → PendingCall T → Option HoldKind → Type 0) → IsKept t At → IsKept t Also → IsKept t (λ place c hold. At place c hold × Also place c hold)
-both_kept t At Also kept also =
-    record {
-      begins = λ call place hold is allowed. (kept.begins call place hold is allowed, also.begins call place hold is allowed);
-      steps = λ place c hold memory number next at free is. (kept.steps place c hold memory number next at.0 free is, also.steps place c hold memory number next at.1 free is);
-      answers = λ place c hold action number at waits. (kept.answers place c hold action number at.0 waits, also.answers place c hold action number at.1 waits);
-      chooses = λ place c hold choice number at stands. (kept.chooses place c hold choice number at.0 stands, also.chooses place c hold choice number at.1 stands);
-    }
+both_kept t At Also h1 h2 = grind (arith, nat_tests, eqb-true, eqb-false)

@@ -1,10 +1,9 @@
 -- Holds of two kinds in one list: each party has one at most, so a release takes away one hold, and that of its party.
-use Rattle.std.proofs.Common.{◌≡◌, ℕ, zero, suc, ◌+◌, ◌<◌, ◌==◌, refl, sym, ◌∙◌, ap, subst, Bool, true, false, cond, List, [], ◌∷◌, Some, None, length, get_or, arith}
+use Rattle.std.proofs.lemmas.Bool.Decides.{nat_tests}
+use Rattle.std.proofs.Common.{◌≡◌, ℕ, zero, suc, ◌+◌, ◌<◌, ◌==◌, refl, ◌∙◌, ap, subst, Bool, true, false, cond, List, [], ◌∷◌, Some, None, length, get_or, arith}
 use Rattle.std.proofs.lemmas.Bool.{eqb-true, eqb-false}
-use Rattle.model_events.specs.declared.hold.HoldKind.{HoldKind}
-use Rattle.model_events.specs.Past.{Hold, hold_among, without}
-use Rattle.model_events.specs.HoldCounts.{same_kind, holds_of_kind, reads_in, writes_in}
-use Rattle.model_events.specs.Laws.{IsExclusive}
+use Rattle.model_events.specs.Exports.{Hold, hold_among, without, same_kind, holds_of_kind, reads_in, writes_in, IsExclusive}
+use Rattle.model_events.specs.Types.{HoldKind}
 use Rattle.model_events.proofs.Holds.{hold_among-without_same, hold_among-without_other}
 
 -- each party has one hold at most
@@ -23,11 +22,7 @@ without_none p (hold ∷ holds) none = by_test (without_none p holds) (hold.0 ==
 
 -- who has no hold has none after any release
 still_none : (p q : ℕ) (holds : List Hold) → hold_among q holds ≡ None → hold_among q (without p holds) ≡ None
-still_none p q holds none = by_test (q == p) refl
-  where
-    by_test : (b : Bool) → (q == p) ≡ b → hold_among q (without p holds) ≡ None
-    by_test true e = subst (λ r. hold_among r (without p holds) ≡ None) (sym (eqb-true q p e)) (hold_among-without_same p holds)
-    by_test false e = hold_among-without_other p q holds (eqb-false q p e) ∙ none
+still_none p q holds h1 = grind (arith, nat_tests, eqb-true, eqb-false, hold_among-without_same, hold_among-without_other)
 
 pub without_one_each : (p : ℕ) (holds : List Hold) → IsOneEach holds → IsOneEach (without p holds)
 without_one_each p [] each = tt
@@ -90,8 +85,4 @@ unwritten_exclusive holds unwritten party among = absurd (omega (arith, counted_
 
 -- the one write hold is the only one
 pub written_exclusive : (p : ℕ) → IsExclusive ((p, HoldKind.Write) ∷ [])
-written_exclusive p q among = only_is among.0 among.1 among.2
-  where
-    only_is : (k : ℕ) → k < 1 → ◌≡◌ {A = Hold} (get_or {A = Hold} ((p, HoldKind.Write) ∷ []) k (q, HoldKind.Write)) (q, HoldKind.Write) → ◌≡◌ {A = List Hold} ((p, HoldKind.Write) ∷ []) ((q, HoldKind.Write) ∷ [])
-    only_is zero below is = ap (λ (h : Hold). h ∷ []) is
-    only_is (suc k) below is = absurd (omega arith)
+written_exclusive p = grind (arith, nat_tests, eqb-true, eqb-false)

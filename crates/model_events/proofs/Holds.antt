@@ -1,17 +1,9 @@
 -- What one more event changes in the calls and the holds of each party.
-use Rattle.std.proofs.Common.{◌≡◌, ◌≢◌, ℕ, zero, ◌==◌, refl, sym, ◌∙◌, Bool, true, false, cond, List, [], ◌∷◌, Option, Some, None, arith}
-use Rattle.std.proofs.lemmas.Bool.{eq-eqb, eqb-true}
+use Rattle.std.proofs.Common.{◌≡◌, ◌≢◌, ℕ, ◌==◌, refl, sym, ◌∙◌, Bool, true, false, cond, List, [], ◌∷◌, Option, Some, None, arith}
+use Rattle.std.proofs.lemmas.Bool.{eq-eqb, eqb-true, eqb-false}
 use Rattle.std.proofs.lemmas.Bool.Decides.{nat_tests}
-use Rattle.model_events.specs.declared.event.Word.{Word}
-use Rattle.model_events.specs.declared.event.Call.{Call}
-use Rattle.model_events.specs.declared.event.Act.{Act}
-use Rattle.model_events.specs.declared.event.Then.{Then}
-use Rattle.model_events.specs.declared.event.Event.{Event}
-use Rattle.model_events.specs.declared.hold.HoldKind.{HoldKind}
-use Rattle.model_events.specs.Tables.{Table}
-use Rattle.model_events.specs.Past.{Hold, PendingCall, call_of, call_after, holds_of, hold_among, hold_or, hold_after, without, with_hold, is_release, hold_taken}
-use Rattle.model_events.specs.Past.{event}
-use Rattle.model_events.specs.Laws.{IsExclusive}
+use Rattle.model_events.specs.Exports.{Table, Hold, PendingCall, call_of, call_after, holds_of, hold_among, hold_or, hold_after, without, with_hold, is_release, hold_taken, event, IsExclusive}
+use Rattle.model_events.specs.Types.{Call, Act, Then, Event, HoldKind}
 
 pub eqb_same : (p : ℕ) → (p == p) ≡ true
 eqb_same p = eq-eqb p p refl
@@ -90,9 +82,7 @@ hold_of_other t p q act outcome past other = hold_among-stepped_other (is_releas
 
 takes_none :
     {T P : Type 0} (t : Table T P) → ((call : Call T) (from to : ℕ) → t.grant call from to ≡ None) → (act : Act T) (pending : Option (PendingCall T)) → hold_taken t act pending ≡ None
-takes_none t ungranted (Act.Exchange Word.State from to found true) (Some c) = ungranted c.call from to
-takes_none t ungranted (Act.Swap Word.State zero put) (Some c) = ungranted c.call 0 put
-takes_none t ungranted act pending = refl
+takes_none t h1 act pending = grind (arith, nat_tests, eqb-true, eqb-false)
 
 pub no_holds : {T P : Type 0} (t : Table T P) → ((call : Call T) (from to : ℕ) → t.grant call from to ≡ None) → (past : List (Event T)) → holds_of t past ≡ []
 no_holds t ungranted [] = refl

@@ -1,17 +1,10 @@
 -- What a call knows of a word by its last look: the word still holds what was seen, or another party has written it since.
-use Rattle.std.proofs.Common.{◌≡◌, ℕ, ◌==◌, refl, sym, ◌∙◌, ap, subst, Bool, true, false, cond, List, [], ◌∷◌, Option, Some, None, ◌⊎◌, inl, inr}
+use Rattle.std.proofs.lemmas.Bool.{eqb-true, eqb-false}
+use Rattle.std.proofs.lemmas.Bool.Decides.{nat_tests}
+use Rattle.std.proofs.Common.{◌≡◌, ℕ, ◌==◌, refl, sym, ◌∙◌, subst, Bool, true, false, cond, List, [], ◌∷◌, Option, Some, ◌⊎◌, inl, inr, arith}
 use Rattle.std.specs.Prelude.{MatchBool}
-use Rattle.model_events.specs.declared.event.Word.{Word}
-use Rattle.model_events.specs.declared.event.Act.{Act}
-use Rattle.model_events.specs.declared.event.Call.{Call}
-use Rattle.model_events.specs.declared.event.Event.{Event}
-use Rattle.model_events.specs.declared.event.Then.{Then}
-use Rattle.model_events.specs.Arithmetic.{Arithmetic}
-use Rattle.model_events.specs.Tables.{Table}
-use Rattle.model_events.specs.Past.{PendingCall, same_word, word_after, word_in, call_of, call_after, call_going_on}
-use Rattle.model_events.specs.Runs.{IsPast}
-use Rattle.model_events.specs.Sights.{sight_of, is_sight, is_beginning, is_write, AtLastSight, OtherWroteSinceSight}
-use Rattle.model_events.specs.Laws.{IsTold}
+use Rattle.model_events.specs.Exports.{Arithmetic, Table, PendingCall, word_after, word_in, call_of, call_after, IsPast, sight_of, is_sight, is_beginning, is_write, AtLastSight, OtherWroteSinceSight, IsTold}
+use Rattle.model_events.specs.Types.{Word, Act, Call, Event, Then}
 use Rattle.model_events.proofs.Steps.{tells_memory}
 
 -- the latest of a call's own events is a look: it told this value and wrote nothing
@@ -21,64 +14,20 @@ IsLook word seen (e ∷ own) = (sight_of word e.act ≡ Some seen) × (is_write 
 
 -- An act that writes nothing leaves the word.
 
-not_put : (b : Bool) (put value : ℕ) → b ≡ false → cond b put value ≡ value
-not_put true put value no_write = absurd cc
-not_put false put value no_write = refl
-
 unwritten : {T : Type 0} (word : Word) (act : Act T) (value : ℕ) → is_write word act ≡ false → word_after word act value ≡ value
-unwritten word (Act.Store w put) value no_write = not_put _ put value no_write
-unwritten word (Act.Swap w old put) value no_write = not_put _ put value no_write
-unwritten word (Act.Add w old put) value no_write = not_put _ put value no_write
-unwritten word (Act.Exchange w from to found done) value no_write = not_put _ to value no_write
-unwritten word act value no_write = refl
+unwritten word act value h1 = grind (arith, nat_tests, eqb-true, eqb-false)
 
 -- What a sight told is what the word held.
 
-same_words : (a b : Word) → same_word a b ≡ true → a ≡ b
-same_words Word.State Word.State is = refl
-same_words Word.Counter Word.Counter is = refl
-same_words Word.Waiters Word.Waiters is = refl
-same_words Word.Value Word.Value is = refl
-same_words Word.Low Word.Low is = refl
-same_words Word.High Word.High is = refl
-same_words a b is = absurd cc
-
-told_here : (w word : Word) (memory : Word → ℕ) (told seen : ℕ) (b : Bool) → same_word w word ≡ b → cond b (Some told) None ≡ Some seen → told ≡ memory w → memory word ≡ seen
-told_here w word memory told seen true is sees tells =
-    let was : told ≡ seen = cc in
-    ap memory (sym (same_words w word is)) ∙ sym tells ∙ was
-told_here w word memory told seen false is sees tells = absurd cc
-
 pub sight_is_told : {T : Type 0} (word : Word) (act : Act T) (memory : Word → ℕ) (seen : ℕ) → sight_of word act ≡ Some seen → IsTold act memory → memory word ≡ seen
-sight_is_told word (Act.Load w told) memory seen sees tells = told_here w word memory told seen (same_word w word) refl sees tells
-sight_is_told word (Act.Swap w told put) memory seen sees tells = told_here w word memory told seen (same_word w word) refl sees tells
-sight_is_told word (Act.Add w told put) memory seen sees tells = told_here w word memory told seen (same_word w word) refl sees tells
-sight_is_told word (Act.Exchange w from to told done) memory seen sees tells = told_here w word memory told seen (same_word w word) refl sees tells.0
-sight_is_told word act memory seen sees tells = absurd cc
+sight_is_told word act memory seen h1 h2 = grind (arith, nat_tests, eqb-true, eqb-false)
 
 -- The latest event of a call under way is the look.
-
-some_call : {T : Type 0} (c d : PendingCall T) → Some c ≡ Some d → c ≡ d
-some_call c d is = cc
-
-going_on_looks :
-    {T : Type 0} (word : Word) (seen : ℕ) (act : Act T) (e : Event T) (pending : Option (PendingCall T)) (c : PendingCall T) →
-    call_going_on act e pending ≡ Some c → IsLook word seen c.own → (sight_of word e.act ≡ Some seen) × (is_write word e.act ≡ false)
-going_on_looks {T} word seen (Act.Begun call) e pending c is look =
-    let begun : PendingCall T = record { call = call; own = [] } in
-    let nothing : [] ≡ c.own = ap (λ (k : PendingCall T). k.own) (some_call begun c is) in
-    absurd (subst (λ (own : List (Event T)). IsLook word seen own) (sym nothing) look)
-going_on_looks word seen act e None c is look = absurd cc
-going_on_looks {T} word seen act e (Some d) c is look =
-    let longer : PendingCall T = record { call = d.call; own = e ∷ d.own } in
-    let latest : e ∷ d.own ≡ c.own = ap (λ (k : PendingCall T). k.own) (some_call longer c is) in
-    subst (λ (own : List (Event T)). IsLook word seen own) (sym latest) look
 
 latest_looks :
     {T : Type 0} (word : Word) (seen : ℕ) (outcome : Then T) (e : Event T) (pending : Option (PendingCall T)) (c : PendingCall T) →
     call_after outcome e pending ≡ Some c → IsLook word seen c.own → (sight_of word e.act ≡ Some seen) × (is_write word e.act ≡ false)
-latest_looks word seen (Then.Answers answer) e pending c is look = absurd cc
-latest_looks word seen other e pending c is look = going_on_looks word seen e.act e pending c is look
+latest_looks word seen outcome e pending c h1 h2 = grind (arith, nat_tests, eqb-true, eqb-false)
 
 -- The word still holds what the look told, or another party has written it since.
 pub kept_or_written :
@@ -113,26 +62,10 @@ abbrev pub LastSaw : {T : Type 0} → Word → ℕ → List (Event T) → List (
 LastSaw word seen before [] = ⊥
 LastSaw word seen before (e ∷ own) = MatchBool (is_sight word e.act) ((sight_of word e.act ≡ Some seen) × (before ≡ own)) (LastSaw word seen before own)
 
--- a call under way after an event of its party: the event began it, or is the latest of its own
-longer_by :
-    {T : Type 0} (act : Act T) (e : Event T) (pending : Option (PendingCall T)) (c : PendingCall T) → call_going_on act e pending ≡ Some c →
-    (c.own ≡ []) ⊎ ((own : List (Event T)) × (pending ≡ Some (record { call = c.call; own = own })) × (c.own ≡ e ∷ own) × (is_beginning act ≡ false))
-longer_by {T} (Act.Begun call) e pending c is =
-    let begun : PendingCall T = record { call = call; own = [] } in
-    inl (sym (ap (λ (k : PendingCall T). k.own) (some_call begun c is)))
-longer_by act e None c is = absurd cc
-longer_by {T} act e (Some d) c is =
-    let longer : PendingCall T = record { call = d.call; own = e ∷ d.own } in
-    let same = some_call longer c is in
-    let calls : d.call ≡ c.call = ap (λ (k : PendingCall T). k.call) same in
-    let was : Some d ≡ Some (record { call = c.call; own = d.own }) = ap (λ (k : Call T). Some (record { call = k; own = d.own })) calls in
-    inr (d.own, was, sym (ap (λ (k : PendingCall T). k.own) same), refl)
-
 pub longer :
     {T : Type 0} (outcome : Then T) (e : Event T) (pending : Option (PendingCall T)) (c : PendingCall T) → call_after outcome e pending ≡ Some c →
     (c.own ≡ []) ⊎ ((own : List (Event T)) × (pending ≡ Some (record { call = c.call; own = own })) × (c.own ≡ e ∷ own) × (is_beginning e.act ≡ false))
-longer (Then.Answers answer) e pending c is = absurd cc
-longer other e pending c is = longer_by e.act e pending c is
+longer outcome e pending c h1 = grind (arith, nat_tests, eqb-true, eqb-false)
 
 -- what follows of the events before a sight from its value and from the own events before it, held at the last sight
 pub at_last_sight :

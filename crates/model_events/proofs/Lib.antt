@@ -9,3 +9,4 @@ pub mod Asks
 pub mod LastSights
 pub mod Own
 pub mod NextStep
+pub mod Exports

@@ -1,24 +1,10 @@
 -- That each step of a run is its call's next, from the step at each place.
-use Rattle.std.proofs.Common.{◌≡◌, ◌∙◌, ℕ, ◌+◌, ◌≤◌, ◌<◌, refl, Bool, true, false, cond, List, [], ◌∷◌, Option, Some, None, arith}
-use Rattle.std.specs.Prelude.{nat_lt, MatchBool, MatchOption}
-use Rattle.model_events.specs.declared.WaitAction.{WaitAction}
-use Rattle.model_events.specs.declared.event.Word.{Word}
-use Rattle.model_events.specs.declared.event.Call.{Call}
-use Rattle.model_events.specs.declared.event.Act.{Act}
-use Rattle.model_events.specs.declared.event.Event.{Event}
-use Rattle.model_events.specs.declared.event.Then.{Then}
-use Rattle.model_events.specs.declared.event.Answer.{Answer}
-use Rattle.model_events.specs.declared.hold.HoldKind.{HoldKind}
-use Rattle.model_events.specs.declared.patience.Patience.{Patience}
-use Rattle.model_events.specs.declared.row.After.{After}
-use Rattle.model_events.specs.Arithmetic.{Arithmetic}
-use Rattle.model_events.specs.Rows.{carried_out, value_told, outcome_of, place_after, within, refused}
-use Rattle.model_events.specs.Tables.{Table}
-use Rattle.model_events.specs.Past.{PendingCall, call_of, hold_of, word_in}
-use Rattle.model_events.specs.Moves.{Move, stage_of, step_at, is_step}
-use Rattle.model_events.specs.Runs.{IsPast}
-use Rattle.model_events.specs.Sights.{acts_in, spins_in}
-use Rattle.model_events.specs.NextStep.{StepsAs, refused_waiting, EndsWithin}
+use Rattle.std.proofs.lemmas.Bool.{eqb-true, eqb-false}
+use Rattle.std.proofs.lemmas.Bool.Decides.{nat_tests}
+use Rattle.std.proofs.Common.{◌≡◌, ◌∙◌, ℕ, ◌+◌, ◌≤◌, ◌<◌, refl, Bool, List, [], ◌∷◌, Option, Some, None, arith}
+use Rattle.std.specs.Prelude.{MatchBool, MatchOption}
+use Rattle.model_events.specs.Exports.{Arithmetic, carried_out, value_told, outcome_of, place_after, within, refused, Table, PendingCall, call_of, hold_of, word_in, Move, stage_of, step_at, is_step, IsPast, acts_in, spins_in, StepsAs, refused_waiting, EndsWithin}
+use Rattle.model_events.specs.Types.{WaitAction, Word, Call, Act, Event, Then, HoldKind, Patience}
 use Rattle.model_events.proofs.Steps.{by_move, carried_is_step}
 use Rattle.model_events.proofs.Spins.{HasSpun}
 use Rattle.model_events.proofs.Parties.{IsKept, IsAtPlace, at_place, each_call}
@@ -58,13 +44,7 @@ steps_as z t parties At Next kept leads past run = steps_follow z t parties At N
 pub refused_left :
     {T P : Type 0} (in_vain : Act T → Bool) (wrap : Patience → P) (patience : Patience) (seen : ℕ) (own : List (Event T)) → HasSpun in_vain patience own →
     outcome_of (within wrap (refused {T = T} patience seen)) ≡ refused_waiting own (spins_in in_vain own) seen
-refused_left {T} {P} in_vain wrap patience seen own so = by_tests patience.keep (nat_lt patience.spins 10000) refl refl
-  where
-    by_tests : (keep left : Bool) → patience.keep ≡ keep → nat_lt patience.spins 10000 ≡ left →
-        outcome_of {T = T} (within wrap (cond keep (cond left (After.At (record { spins = patience.spins + 1; keep = patience.keep })) (After.Waits patience seen)) (After.Ends Answer.Interrupted))) ≡ refused_waiting own (spins_in in_vain own) seen
-    by_tests true true keeps spins = rw (so.keeps, keeps, so.spun, spins) refl
-    by_tests true false keeps spins = rw (so.keeps, keeps, so.spun, spins) refl
-    by_tests false left keeps spins = rw (so.keeps, keeps) refl
+refused_left in_vain wrap patience seen own h1 = grind (arith, nat_tests, eqb-true, eqb-false)
 
 -- A call that waits for nobody ends within so many steps, where fewer of them are left at each place than at the one before.
 

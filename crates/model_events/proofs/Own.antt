@@ -1,17 +1,10 @@
 -- What a call's own events are among all events.
-use Rattle.std.proofs.Common.{◌≡◌, ◌≢◌, ℕ, ◌≤◌, ◌<◌, ◌==◌, refl, sym, ap, subst, Bool, true, false, cond, List, [], ◌∷◌, Option, Some, None, ◌⊎◌, inl, inr, arith}
+use Rattle.std.proofs.Common.{◌≡◌, ◌≢◌, ℕ, ◌≤◌, ◌<◌, ◌==◌, refl, sym, subst, Bool, true, false, cond, List, [], ◌∷◌, Some, ◌⊎◌, inl, inr, arith}
 use Rattle.std.specs.Prelude.{MatchBool}
-use Rattle.std.proofs.lemmas.Bool.{eq-eqb}
-use Rattle.std.proofs.lemmas.Bool.Decides.{eqb_tells}
-use Rattle.model_events.specs.declared.event.Act.{Act}
-use Rattle.model_events.specs.declared.event.Event.{Event}
-use Rattle.model_events.specs.declared.event.Then.{Then}
-use Rattle.model_events.specs.Arithmetic.{Arithmetic}
-use Rattle.model_events.specs.Tables.{Table}
-use Rattle.model_events.specs.Past.{PendingCall, call_of, call_after, call_going_on, word_in}
-use Rattle.model_events.specs.Runs.{IsPast}
-use Rattle.model_events.specs.Sights.{AtLast, is_beginning, acts_in, last_of}
-use Rattle.model_events.specs.Laws.{IsTold}
+use Rattle.std.proofs.lemmas.Bool.{eq-eqb, eqb-true, eqb-false}
+use Rattle.std.proofs.lemmas.Bool.Decides.{nat_tests}
+use Rattle.model_events.specs.Exports.{Arithmetic, Table, PendingCall, call_of, word_in, IsPast, AtLast, is_beginning, acts_in, last_of, IsTold}
+use Rattle.model_events.specs.Types.{Act, Event}
 use Rattle.model_events.proofs.Holds.{some_same, eqb_other}
 use Rattle.model_events.proofs.Steps.{tells_memory}
 
@@ -23,20 +16,7 @@ IsCallAfter {T} past e party c =
     ⊎ ((e.party ≡ party) × ((before : PendingCall T) × (call_of party past ≡ Some before) × (c.own ≡ e ∷ before.own) × (is_beginning e.act ≡ false))))
 
 pub call_was : {T : Type 0} (past : List (Event T)) (e : Event T) (party : ℕ) (c : PendingCall T) → call_of party (e ∷ past) ≡ Some c → IsCallAfter past e party c
-call_was {T} past e party c is = by_party (eqb_tells e.party party)
-  where
-    by_act : e.party ≡ party → (act : Act T) → e.act ≡ act → (pending : Option (PendingCall T)) → call_of party past ≡ pending → call_going_on act e pending ≡ Some c → IsCallAfter past e party c
-    by_act mine (Act.Begun call) acted pending was made = inr (inl (mine, sym (ap (λ (k : PendingCall T). k.own) (some_same _ c made))))
-    by_act mine act acted None was made = absurd cc
-    by_act mine act acted (Some before) was made = inr (inr (mine, (before, was, sym (ap (λ (k : PendingCall T). k.own) (some_same _ c made)), ap is_beginning acted)))
-
-    by_outcome : e.party ≡ party → (outcome : Then T) → call_after outcome e (call_of party past) ≡ Some c → IsCallAfter past e party c
-    by_outcome mine (Then.Answers answer) made = absurd cc
-    by_outcome mine outcome made = by_act mine e.act refl (call_of party past) refl made
-
-    by_party : (((e.party == party) ≡ true) × (e.party ≡ party)) ⊎ (((e.party == party) ≡ false) × (e.party ≢ party)) → IsCallAfter past e party c
-    by_party (inl mine) = by_outcome mine.1 e.then (rw mine.0 at is)
-    by_party (inr other) = inl (other.1, rw other.0 at is)
+call_was past e party c h1 = grind (arith, nat_tests, eqb-true, eqb-false)
 
 -- there are no more acts of a kind in a call than in all
 pub own_among :

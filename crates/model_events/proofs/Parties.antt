@@ -1,24 +1,9 @@
 -- What each party keeps, through every event: of its call under way, the call's place, and its hold.
-use Rattle.std.proofs.Common.{◌≡◌, ◌≢◌, ℕ, ◌==◌, refl, sym, ◌∙◌, ap, subst, Bool, true, false, cond, is_some, List, [], ◌∷◌, Option, Some, None, ◌⊎◌, inl, inr}
-use Rattle.std.specs.Prelude.{nat_lt}
-use Rattle.std.proofs.lemmas.Bool.Decides.{eqb_tells}
-use Rattle.model_events.specs.declared.WaitAction.{WaitAction}
-use Rattle.model_events.specs.declared.event.Word.{Word}
-use Rattle.model_events.specs.declared.event.Call.{Call}
-use Rattle.model_events.specs.declared.event.Act.{Act}
-use Rattle.model_events.specs.declared.event.Answer.{Answer}
-use Rattle.model_events.specs.declared.event.Event.{Event}
-use Rattle.model_events.specs.declared.event.Input.{Input}
-use Rattle.model_events.specs.declared.event.StepFault.{StepFault}
-use Rattle.model_events.specs.declared.event.Then.{Then}
-use Rattle.model_events.specs.declared.hold.HoldKind.{HoldKind}
-use Rattle.model_events.specs.declared.row.After.{After}
-use Rattle.model_events.specs.Arithmetic.{Arithmetic}
-use Rattle.model_events.specs.Rows.{carried_out, value_told, outcome_of, place_after}
-use Rattle.model_events.specs.Tables.{Table}
-use Rattle.model_events.specs.Past.{PendingCall, call_of, call_after, call_going_on, hold_of, hold_after, word_in, latest_outcome, event}
-use Rattle.model_events.specs.Moves.{Move, stage_of, next_stage, step_at, step_of, move_of, fault_at, fault_of, hold_fault, begin_fault, go_fault, answer_fault, choose_fault, CallValues, InputValues, IsNext}
-use Rattle.model_events.specs.Runs.{IsPast}
+use Rattle.std.proofs.lemmas.Bool.{eqb-true, eqb-false}
+use Rattle.std.proofs.Common.{◌≡◌, ◌≢◌, ℕ, ◌==◌, refl, sym, ◌∙◌, ap, subst, true, false, cond, is_some, List, [], ◌∷◌, Option, Some, None, ◌⊎◌, inl, inr, arith}
+use Rattle.std.proofs.lemmas.Bool.Decides.{eqb_tells, nat_tests}
+use Rattle.model_events.specs.Exports.{Arithmetic, carried_out, value_told, outcome_of, place_after, Table, PendingCall, call_of, call_after, call_going_on, hold_of, hold_after, word_in, latest_outcome, event, Move, stage_of, next_stage, step_at, move_of, fault_at, fault_of, hold_fault, begin_fault, go_fault, answer_fault, choose_fault, CallValues, InputValues, IsNext, IsPast}
+use Rattle.model_events.specs.Types.{WaitAction, Word, Call, Act, Answer, Event, Input, StepFault, Then, HoldKind, After}
 use Rattle.model_events.proofs.Holds.{some_same, call_of_same, call_of_other, hold_of_same, hold_of_other}
 use Rattle.model_events.proofs.Steps.{by_move, carried_goes_on, carried_stage}
 
@@ -26,11 +11,7 @@ use Rattle.model_events.proofs.Steps.{by_move, carried_goes_on, carried_stage}
 pub fault_at_none :
     {T P : Type 0} (t : Table T P) (parties : ℕ) (past : List (Event T)) (party : ℕ) (input : Input T) →
     fault_of t parties past party input ≡ None → fault_at t (call_of party past) (hold_of t party past) input ≡ None
-fault_at_none {T} t parties past party input allowed = by_test (nat_lt party parties) (fault_at t (call_of party past) (hold_of t party past) input) allowed
-  where
-    by_test : (b : Bool) (fault : Option StepFault) → cond b fault (Some StepFault.NoParty) ≡ None → fault ≡ None
-    by_test true fault is = is
-    by_test false fault is = absurd cc
+fault_at_none t parties past party input h1 = grind (arith, nat_tests, eqb-true, eqb-false)
 
 -- an event of a party keeps what holds of each party, if it keeps it of its own
 pub one_more :
@@ -107,14 +88,7 @@ abbrev pub Whatever : Option HoldKind → Type 0
 Whatever hold = Unit {0}
 
 whatever_rests : {T P : Type 0} (z : Arithmetic T) (t : Table T P) (At : P → PendingCall T → Option HoldKind → Type 0) → IsKept t At → IsKeptFromRest z t Whatever At
-whatever_rests z t At kept =
-    record {
-      begins = λ call place hold is allowed values rest. kept.begins call place hold is allowed;
-      steps = kept.steps;
-      answers = kept.answers;
-      chooses = λ place c hold choice number at stands values. kept.chooses place c hold choice number at stands;
-      ends = λ place c hold memory answer at is. tt;
-    }
+whatever_rests z t At h1 = grind (arith, nat_tests, eqb-true, eqb-false)
 
 -- a party's call under way is at a place, of which this is kept; without a call it rests
 abbrev pub IsAtPlaceOrRests : {T P : Type 0} → Table T P → (Option HoldKind → Type 0) → (P → PendingCall T → Option HoldKind → Type 0) → Option (PendingCall T) → Option HoldKind → Type 0
@@ -248,13 +222,7 @@ abbrev pub Anywhere : {T P : Type 0} → P → PendingCall T → Option HoldKind
 Anywhere place c hold = Unit {0}
 
 pub anywhere_kept : {T P : Type 0} (t : Table T P) → IsKept t Anywhere
-anywhere_kept t =
-    record {
-      begins = λ call place hold is allowed. tt;
-      steps = λ place c hold memory number next at free is. tt;
-      answers = λ place c hold action number at waits. tt;
-      chooses = λ place c hold choice number at stands. tt;
-    }
+anywhere_kept t = grind (arith, nat_tests, eqb-true, eqb-false)
 
 -- each call under way is at a place
 abbrev pub HavePlaces : {T P : Type 0} → Table T P → List (Event T) → Type 0
@@ -271,11 +239,4 @@ next_has_places z t parties past party input e have next =
 pub gives_event :
     {T P : Type 0} (t : Table T P) (parties : ℕ) (past : List (Event T)) (party : ℕ) (input : Input T) → HavePlaces t past → fault_of t parties past party input ≡ None →
     move_of t (call_of party past) (hold_of t party past) (word_in t past) input ≡ None → ⊥
-gives_event {T} {P} t parties past party input have allowed none = by_input (call_of party past) (hold_of t party past) (have party) input (fault_at_none t parties past party input allowed) none
-  where
-    by_input : (pending : Option (PendingCall T)) (hold : Option HoldKind) → IsAtPlace t Anywhere pending hold → (i : Input T) → fault_at t pending hold i ≡ None → move_of t pending hold (word_in t past) i ≡ None → ⊥
-    by_input pending hold at (Input.Begin call) free no_move = absurd cc
-    by_input pending hold at (Input.Answer action) free no_move = absurd cc
-    by_input pending hold at (Input.Choose choice) free no_move = absurd cc
-    by_input None hold at Input.Go free no_move = absurd cc
-    by_input (Some c) hold at Input.Go free no_move = let no : step_of t (Some at.0) hold (word_in t past) ≡ None = subst (λ (s : Option P). step_of t s hold (word_in t past) ≡ None) at.1 no_move in absurd cc
+gives_event t parties past party input h1 h2 h3 = grind (arith, nat_tests, eqb-true, eqb-false)

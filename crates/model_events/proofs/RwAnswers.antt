@@ -1,20 +1,9 @@
 -- A lock with read and write holds answers by the hold: from its step at each place.
-use Rattle.std.proofs.Common.{◌≡◌, refl, sym, ◌∙◌, ap, subst, ℕ, Bool, true, false, cond, List, [], ◌∷◌, Option, Some, None}
-use Rattle.model_events.specs.declared.event.Word.{Word}
-use Rattle.model_events.specs.declared.event.Call.{Call}
-use Rattle.model_events.specs.declared.event.Act.{Act}
-use Rattle.model_events.specs.declared.event.Answer.{Answer}
-use Rattle.model_events.specs.declared.event.Event.{Event}
-use Rattle.model_events.specs.declared.event.Then.{Then}
-use Rattle.model_events.specs.declared.hold.HoldKind.{HoldKind}
-use Rattle.model_events.specs.declared.row.After.{After}
-use Rattle.model_events.specs.Arithmetic.{Arithmetic}
-use Rattle.model_events.specs.Rows.{outcome_of, place_after}
-use Rattle.model_events.specs.Tables.{Table}
-use Rattle.model_events.specs.Past.{PendingCall, call_of, hold_of, hold_after, word_in, event}
-use Rattle.model_events.specs.Moves.{Move, stage_of, step_at}
-use Rattle.model_events.specs.Runs.{IsPast}
-use Rattle.model_events.specs.RwAnswers.{kind_wanted, acts_of, IsRwAnswer, IsAnswered, AnswersByHold}
+use Rattle.std.proofs.lemmas.Bool.{eqb-true, eqb-false}
+use Rattle.std.proofs.lemmas.Bool.Decides.{nat_tests}
+use Rattle.std.proofs.Common.{◌≡◌, sym, ◌∙◌, ap, subst, ℕ, Bool, cond, List, [], ◌∷◌, Option, Some, None, arith}
+use Rattle.model_events.specs.Exports.{Arithmetic, outcome_of, place_after, Table, PendingCall, call_of, hold_of, hold_after, word_in, event, Move, stage_of, step_at, IsPast, kind_wanted, IsRwAnswer, IsAnswered, AnswersByHold}
+use Rattle.model_events.specs.Types.{Word, Call, Act, Answer, Event, Then, HoldKind, After}
 use Rattle.model_events.proofs.Holds.{hold_of_same}
 use Rattle.model_events.proofs.Steps.{by_move}
 
@@ -26,22 +15,19 @@ wants {T} c call kind is kinds = ap (λ (k : Call T). kind_wanted k) is ∙ kind
 pub granted :
     {T : Type 0} (HasUnlocked : List (Act T) → Type 0) (call : Call T) (done : List (Act T)) (hold : Option HoldKind) (kind : HoldKind) → kind_wanted call ≡ Some kind → hold ≡ Some kind →
     IsRwAnswer HasUnlocked call done hold Answer.Success
-granted HasUnlocked Call.Unlock done hold kind wants has = absurd cc
-granted HasUnlocked call done hold kind wants has = rw has (refl, wants)
+granted HasUnlocked call done hold kind h1 h2 = grind (arith, nat_tests, eqb-true, eqb-false)
 
 -- one that has none
 pub turned_away :
     {T : Type 0} (HasUnlocked : List (Act T) → Type 0) (call : Call T) (done : List (Act T)) (hold : Option HoldKind) (kind : HoldKind) → kind_wanted call ≡ Some kind → hold ≡ None →
     IsRwAnswer HasUnlocked call done hold Answer.Interrupted
-turned_away HasUnlocked Call.Unlock done hold kind wants none = absurd cc
-turned_away HasUnlocked call done hold kind wants none = rw none refl
+turned_away HasUnlocked call done hold kind h1 h2 = grind (arith, nat_tests, eqb-true, eqb-false)
 
 -- an `Unlock` that has done what makes one
 pub unlocked :
     {T : Type 0} (HasUnlocked : List (Act T) → Type 0) (call : Call T) (done : List (Act T)) (hold : Option HoldKind) → call ≡ Call.Unlock → hold ≡ None → HasUnlocked done →
     IsRwAnswer HasUnlocked call done hold Answer.Done
-unlocked {T} HasUnlocked call done hold unlocks none has =
-    subst (λ (k : Call T). IsRwAnswer HasUnlocked k done hold Answer.Done) (sym unlocks) (refl, has, none)
+unlocked HasUnlocked call done hold h1 h2 h3 = grind (arith, nat_tests, eqb-true, eqb-false)
 
 -- a step that ends its call, if at all, with a refusal, and goes on to such places
 abbrev pub IsTryOn : {T P : Type 0} → (P → Type 0) → After T P → Type 0
@@ -54,20 +40,14 @@ IsTryOn Goes (After.Ends answer) = answer ≡ Answer.Interrupted
 pub tries_on :
     {T P : Type 0} (HasUnlocked : List (Act T) → Type 0) (Goes : P → Type 0) (c : PendingCall T) (act : Act T) (hold : Option HoldKind) (kind : HoldKind) (a : After T P) → kind_wanted c.call ≡ Some kind → hold ≡ None → IsTryOn Goes a →
     IsAnswered HasUnlocked (Some c) act (outcome_of a) hold
-tries_on HasUnlocked Goes c act hold kind (After.At place) wants none on = tt
-tries_on HasUnlocked Goes c act hold kind (After.Waits place seen) wants none on = tt
-tries_on HasUnlocked Goes c act hold kind (After.Chooses place old) wants none on = tt
-tries_on HasUnlocked Goes c act hold kind (After.Ends answer) wants none on =
-    rw on (turned_away HasUnlocked c.call (act ∷ acts_of c.own) hold kind wants none)
+tries_on HasUnlocked Goes c act hold kind a h1 h2 h3 = grind (arith, nat_tests, eqb-true, eqb-false)
 
 -- an exchange of the lock's word that takes the hold where it is done, and else goes on
 pub enters :
     {T P : Type 0} (HasUnlocked : List (Act T) → Type 0) (t : Table T P) (Goes : P → Type 0) (c : PendingCall T) (hold : Option HoldKind) (from to found : ℕ) (kind : HoldKind) (b : Bool) (a : After T P) →
     kind_wanted c.call ≡ Some kind → hold ≡ None → t.grant c.call from to ≡ Some kind → IsTryOn Goes a →
     IsAnswered HasUnlocked (Some c) (Act.Exchange Word.State from to found b) (outcome_of (cond b (After.Ends Answer.Success) a)) (hold_after t (Act.Exchange Word.State from to found b) (Some c) hold)
-enters HasUnlocked t Goes c hold from to found kind true a wanted free grants on =
-    granted HasUnlocked c.call _ (hold_after t (Act.Exchange Word.State from to found true) (Some c) hold) kind wanted (rw grants refl)
-enters HasUnlocked t Goes c hold from to found kind false a wanted free grants on = tries_on HasUnlocked Goes c _ hold kind a wanted free on
+enters HasUnlocked t Goes c hold from to found kind b a h1 h2 h3 h4 = grind (arith, nat_tests, eqb-true, eqb-false)
 
 -- What is kept of the own events of a call at its place, where a step leads.
 
@@ -80,19 +60,13 @@ LeadsTo At own hold number act (After.Ends answer) = Unit {0}
 pub leads_on :
     {T P : Type 0} (At : P → List (Event T) → Option HoldKind → Type 0) (own : List (Event T)) (hold : Option HoldKind) (number : ℕ) (act : Act T) (next : P) (a : After T P) →
     LeadsTo At own hold number act a → place_after a ≡ Some next → At next (event number act (outcome_of a) ∷ own) hold
-leads_on At own hold number act next (After.At place) to is = let made : place ≡ next = cc in subst (λ p. At p (event number act Then.GoesOn ∷ own) hold) made to
-leads_on At own hold number act next (After.Waits place seen) to is = let made : place ≡ next = cc in subst (λ p. At p (event number act (Then.Waits seen) ∷ own) hold) made to
-leads_on At own hold number act next (After.Chooses place old) to is = let made : place ≡ next = cc in subst (λ p. At p (event number act (Then.Chooses old) ∷ own) hold) made to
-leads_on At own hold number act next (After.Ends answer) to is = absurd cc
+leads_on At own hold number act next a h1 h2 = grind (arith, nat_tests, eqb-true, eqb-false)
 
 -- a step that tries on leads to a place of which nothing is to be kept
 pub try_leads :
     {T P : Type 0} (Goes : P → Type 0) (At : P → List (Event T) → Option HoldKind → Type 0) → ((place : P) (own : List (Event T)) (hold : Option HoldKind) → Goes place → At place own hold) →
     (own : List (Event T)) (hold : Option HoldKind) (number : ℕ) (act : Act T) (a : After T P) → IsTryOn Goes a → LeadsTo At own hold number act a
-try_leads Goes At free own hold number act (After.At place) on = free place _ hold on
-try_leads Goes At free own hold number act (After.Waits place seen) on = free place _ hold on
-try_leads Goes At free own hold number act (After.Chooses place old) on = free place _ hold on
-try_leads Goes At free own hold number act (After.Ends answer) on = tt
+try_leads Goes At h1 own hold number act a h2 = grind (arith, nat_tests, eqb-true, eqb-false)
 
 -- at every prefix, from the step at each place
 pub answers_by_hold :

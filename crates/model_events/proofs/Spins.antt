@@ -1,19 +1,10 @@
 -- How a waiting call counts its spins, and knows whether it keeps on asking.
-use Rattle.std.proofs.Common.{◌≡◌, ◌∙◌, ℕ, ◌+◌, ◌≤◌, refl, Bool, true, false, cond, ◌&&◌, List, [], ◌∷◌, Some, None, arith}
+use Rattle.std.proofs.lemmas.Bool.{eqb-true, eqb-false}
+use Rattle.std.proofs.Common.{◌≡◌, ◌∙◌, ℕ, ◌+◌, ◌≤◌, refl, Bool, true, false, ◌&&◌, List, [], ◌∷◌, Some, None, arith}
 use Rattle.std.specs.Prelude.{nat_lt, MatchBool}
 use Rattle.std.proofs.lemmas.Bool.Decides.{nat_tests}
-use Rattle.model_events.specs.declared.WaitAction.{WaitAction}
-use Rattle.model_events.specs.declared.event.Act.{Act}
-use Rattle.model_events.specs.declared.event.Event.{Event}
-use Rattle.model_events.specs.declared.event.Then.{Then}
-use Rattle.model_events.specs.declared.event.Answer.{Answer}
-use Rattle.model_events.specs.declared.patience.Patience.{Patience}
-use Rattle.model_events.specs.declared.row.After.{After}
-use Rattle.model_events.specs.Rows.{is_continue, answered, refused, within, outcome_of, place_after}
-use Rattle.model_events.specs.Past.{event}
-use Rattle.model_events.specs.Moves.{answer_fault}
-use Rattle.model_events.specs.Sights.{keeps_asking, spins_in, is_abort, stands_at_wait}
-use Rattle.model_events.specs.Laws.{is_refusal}
+use Rattle.model_events.specs.Exports.{is_continue, answered, refused, within, outcome_of, place_after, event, answer_fault, keeps_asking, spins_in, is_abort, stands_at_wait, is_refusal}
+use Rattle.model_events.specs.Types.{WaitAction, Act, Event, Then, Patience}
 
 -- the own events of a call whose place has this patience, where such acts are tries in vain
 pub record HasSpun {T : Type 0} (in_vain : Act T → Bool) (patience : Patience) (own : List (Event T)) : Type 0 where
@@ -30,14 +21,10 @@ spins_spent n below left = grind (arith, nat_tests)
 -- an answer of the wait closure
 
 pub answered_keep : {T : Type 0} (keep : Bool) (action : WaitAction) (own : List (Event T)) (number : ℕ) → keeps_asking own ≡ keep → keeps_asking (event number (Act.Answered action) Then.GoesOn ∷ own) ≡ (keep && is_continue action)
-answered_keep true WaitAction.Continue own number is = is
-answered_keep false WaitAction.Continue own number is = is
-answered_keep true WaitAction.Abort own number is = refl
-answered_keep false WaitAction.Abort own number is = refl
+answered_keep keep action own number h1 = grind (arith, nat_tests, eqb-true, eqb-false)
 
 pub waits_by : {T : Type 0} (outcome : Then T) → answer_fault outcome ≡ None → stands_at_wait outcome ≡ true
-waits_by (Then.Waits seen) is = refl
-waits_by other is = absurd cc
+waits_by outcome h1 = grind (arith, nat_tests, eqb-true, eqb-false)
 
 -- What one more event of the call makes of it.
 
@@ -55,40 +42,19 @@ passed_on in_vain patience own number act outcome so tries quiet = record { spun
 pub answered_spun :
     {T : Type 0} (in_vain : Act T → Bool) (patience : Patience) (own : List (Event T)) (number : ℕ) (action : WaitAction) → HasSpun in_vain patience own →
     in_vain (Act.Answered action) ≡ false → HasSpun in_vain (answered patience action) (event number (Act.Answered action) Then.GoesOn ∷ own)
-answered_spun in_vain patience own number action so tries =
-    record { spun = rw tries (omega (arith, so.spun)); keeps = answered_keep patience.keep action own number so.keeps; within_limit = so.within_limit }
+answered_spun in_vain patience own number action h1 h2 = grind (arith, nat_tests, eqb-true, eqb-false)
 
 -- A try in vain, by two tests: the call keeps on asking, it has spins left.
-
-abbrev refused_by : {T : Type 0} → Patience → ℕ → Bool → Bool → After T Patience
-refused_by patience seen keep left =
-    cond keep (cond left (After.At (record { spins = patience.spins + 1; keep = patience.keep })) (After.Waits patience seen)) (After.Ends Answer.Interrupted)
-
-refused_by_leads :
-    {T P : Type 0} (in_vain : Act T → Bool) (wrap : Patience → P) (patience : Patience) (seen : ℕ) (own : List (Event T)) (number : ℕ) (act : Act T) (next : P) (keep left : Bool) → HasSpun in_vain patience own →
-    in_vain act ≡ true → is_abort act ≡ false → nat_lt patience.spins 10000 ≡ left → place_after (within wrap (refused_by {T = T} patience seen keep left)) ≡ Some next →
-    (more : Patience) × (wrap more ≡ next) × HasSpun in_vain more (event number act (outcome_of (within wrap (refused_by {T = T} patience seen keep left))) ∷ own)
-refused_by_leads in_vain wrap patience seen own number act next true true so tries quiet spins is =
-    (record { spins = patience.spins + 1; keep = patience.keep }, cc, record { spun = rw tries (omega (arith, so.spun)); keeps = rw quiet so.keeps; within_limit = spins_left patience.spins spins })
-refused_by_leads in_vain wrap patience seen own number act next true false so tries quiet spins is =
-    (patience, cc, record { spun = rw tries (omega (arith, so.spun)); keeps = rw quiet so.keeps; within_limit = so.within_limit })
-refused_by_leads in_vain wrap patience seen own number act next false left so tries quiet spins is = absurd cc
 
 -- it leads to a place of the same form, with one spin more where it spins
 pub refused_leads :
     {T P : Type 0} (in_vain : Act T → Bool) (wrap : Patience → P) (patience : Patience) (seen : ℕ) (own : List (Event T)) (number : ℕ) (act : Act T) (next : P) → HasSpun in_vain patience own →
     in_vain act ≡ true → is_abort act ≡ false → place_after (within wrap (refused {T = T} patience seen)) ≡ Some next →
     (more : Patience) × (wrap more ≡ next) × HasSpun in_vain more (event number act (outcome_of (within wrap (refused {T = T} patience seen))) ∷ own)
-refused_leads in_vain wrap patience seen own number act next so tries quiet is =
-    refused_by_leads in_vain wrap patience seen own number act next patience.keep (nat_lt patience.spins 10000) so tries quiet refl is
+refused_leads in_vain wrap patience seen own number act next h1 h2 h3 h4 = grind (arith, nat_tests, eqb-true, eqb-false)
 
 -- it gives up only where its closure has answered Abort
 pub refused_because :
     {T P : Type 0} (in_vain : Act T → Bool) (wrap : Patience → P) (patience : Patience) (seen : ℕ) (own : List (Event T)) (Because : Type 0) → HasSpun in_vain patience own → (keeps_asking own ≡ false → Because) →
     MatchBool (is_refusal (outcome_of (within wrap (refused {T = T} patience seen)))) Because (Unit {0})
-refused_because {T} in_vain wrap patience seen own Because so aborted = by_tests patience.keep (nat_lt patience.spins 10000) refl
-  where
-    by_tests : (keep left : Bool) → patience.keep ≡ keep → MatchBool (is_refusal (outcome_of (within wrap (refused_by {T = T} patience seen keep left)))) Because (Unit {0})
-    by_tests true true keeps = tt
-    by_tests true false keeps = tt
-    by_tests false left keeps = aborted (so.keeps ∙ keeps)
+refused_because in_vain wrap patience seen own Because h1 h2 = grind (arith, nat_tests, eqb-true, eqb-false)

@@ -1,11 +1,7 @@
 -- How a call waits that has a wait closure: it spins so often, then asks; what it tells the closure; and that it asks no more once that has
 -- answered Abort. What counts as a spin, what refuses a call, and which events are those of one wait, is each object's own.
 use Rattle.std.specs.Prelude.{◌≡◌, ◌≤◌, ℕ, ◌-◌, true, if◌then◌else◌, List, [], ◌∷◌, Option, Some, MatchOption}
-use Rattle.model_events.specs.declared.event.Word.{Word}
-use Rattle.model_events.specs.declared.event.Call.{Call}
-use Rattle.model_events.specs.declared.event.Act.{Act}
-use Rattle.model_events.specs.declared.event.Event.{Event}
-use Rattle.model_events.specs.declared.event.Then.{Then}
+use Rattle.model_events.specs.Types.{Word, Call, Act, Event, Then}
 use Rattle.model_events.specs.Past.{PendingCall, call_of}
 use Rattle.model_events.specs.Sights.{sight_of, keeps_asking}
 

@@ -1,6 +1,6 @@
 -- The holds of a lock by their kinds: how many of each there are.
 use Rattle.std.specs.Prelude.{ℕ, ◌+◌, Bool, true, false, if◌then◌else◌, List, [], ◌∷◌}
-use Rattle.model_events.specs.declared.hold.HoldKind.{HoldKind}
+use Rattle.model_events.specs.Types.{HoldKind}
 use Rattle.model_events.specs.Past.{Hold}
 
 abbrev pub same_kind : HoldKind → HoldKind → Bool

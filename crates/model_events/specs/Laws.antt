@@ -1,13 +1,6 @@
 -- What laws of every object speak of.
 use Rattle.std.specs.Prelude.{◌≡◌, ◌<◌, ℕ, ◌==◌, Bool, true, false, not, Option, List, [], ◌∷◌, length, Contains, MatchBool, MatchOption}
-use Rattle.model_events.specs.declared.event.Word.{Word}
-use Rattle.model_events.specs.declared.event.Call.{Call}
-use Rattle.model_events.specs.declared.event.Act.{Act}
-use Rattle.model_events.specs.declared.event.Answer.{Answer}
-use Rattle.model_events.specs.declared.event.Then.{Then}
-use Rattle.model_events.specs.declared.event.Event.{Event}
-use Rattle.model_events.specs.declared.hold.HoldKind.{HoldKind}
-use Rattle.model_events.specs.declared.row.Intent.{Intent}
+use Rattle.model_events.specs.Types.{Word, Call, Act, Answer, Then, Event, HoldKind, Intent}
 use Rattle.model_events.specs.Tables.{Table}
 use Rattle.model_events.specs.Past.{Hold, same_word, call_of, holds_of, word_in}
 

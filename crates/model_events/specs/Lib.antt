@@ -1,3 +1,4 @@
+pub mod Types
 pub mod Arithmetic
 pub mod Integers
 pub mod IntegerLaws
@@ -14,3 +15,4 @@ pub mod Asks
 pub mod NextStep
 pub mod RwSteps
 pub mod Laws
+pub mod Exports

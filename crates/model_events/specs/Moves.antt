@@ -1,13 +1,6 @@
 -- What may come next: where a call is, which inputs are refused, and which event any other input gives.
 use Rattle.std.specs.Prelude.{◌≡◌, ℕ, ◌<◌, ◌^◌, nat_lt, Bool, true, false, ◌&&◌, is_some, is_none, if◌then◌else◌, List, [], ◌∷◌, Option, Some, None}
-use Rattle.model_events.specs.declared.event.Word.{Word}
-use Rattle.model_events.specs.declared.event.Call.{Call}
-use Rattle.model_events.specs.declared.event.Act.{Act}
-use Rattle.model_events.specs.declared.event.Then.{Then}
-use Rattle.model_events.specs.declared.event.Event.{Event}
-use Rattle.model_events.specs.declared.event.Input.{Input}
-use Rattle.model_events.specs.declared.event.StepFault.{StepFault}
-use Rattle.model_events.specs.declared.hold.HoldKind.{HoldKind}
+use Rattle.model_events.specs.Types.{Word, Call, Act, Then, Event, Input, StepFault, HoldKind}
 use Rattle.model_events.specs.Arithmetic.{Arithmetic, IsValue}
 use Rattle.model_events.specs.Rows.{carried_out, value_told, outcome_of, place_after}
 use Rattle.model_events.specs.Tables.{Table}

@@ -1,12 +1,7 @@
 -- A step of a call is the one that what its call has seen asks for. Which that is, and how it leaves the call, each object says for itself, of
 -- events alone: by the call, its own events so far, the act, and what comes of it.
 use Rattle.std.specs.Prelude.{◌≡◌, ◌<◌, ℕ, nat_lt, ◌&&◌, if◌then◌else◌, List, [], ◌∷◌, Option, Some, None, MatchBool, MatchOption}
-use Rattle.model_events.specs.declared.event.Call.{Call}
-use Rattle.model_events.specs.declared.event.Word.{Word}
-use Rattle.model_events.specs.declared.event.Act.{Act}
-use Rattle.model_events.specs.declared.event.Event.{Event}
-use Rattle.model_events.specs.declared.event.Answer.{Answer}
-use Rattle.model_events.specs.declared.event.Then.{Then}
+use Rattle.model_events.specs.Types.{Call, Word, Act, Event, Answer, Then}
 use Rattle.model_events.specs.Past.{call_of}
 use Rattle.model_events.specs.Moves.{is_step}
 use Rattle.model_events.specs.Sights.{sight_of, keeps_asking, goes_on, acts_in, last_of}

@@ -1,11 +1,6 @@
 -- What the events so far tell, newest first: the words, the call that each party has under way, the holds, and the exchanges that failed.
 use Rattle.std.specs.Prelude.{ℕ, zero, ◌+◌, Bool, true, false, ◌&&◌, ◌==◌, if◌then◌else◌, List, [], ◌∷◌, Option, Some, None}
-use Rattle.model_events.specs.declared.event.Word.{Word}
-use Rattle.model_events.specs.declared.event.Call.{Call}
-use Rattle.model_events.specs.declared.event.Act.{Act}
-use Rattle.model_events.specs.declared.event.Then.{Then}
-use Rattle.model_events.specs.declared.event.Event.{Event}
-use Rattle.model_events.specs.declared.hold.HoldKind.{HoldKind}
+use Rattle.model_events.specs.Types.{Word, Call, Act, Then, Event, HoldKind}
 use Rattle.model_events.specs.Tables.{Table}
 
 -- The memory.

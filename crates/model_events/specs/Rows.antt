@@ -1,13 +1,6 @@
 -- The rows of a table of steps: what a step does to the words that it finds, and how its call goes on.
 use Rattle.std.specs.Prelude.{◌≡◌, ℕ, ◌+◌, ◌-◌, ◌%◌, ◌^◌, ◌==◌, ◌&&◌, nat_lt, Bool, true, false, if◌then◌else◌, Option, Some, None}
-use Rattle.model_events.specs.declared.WaitAction.{WaitAction}
-use Rattle.model_events.specs.declared.event.Word.{Word}
-use Rattle.model_events.specs.declared.event.Act.{Act}
-use Rattle.model_events.specs.declared.event.Answer.{Answer}
-use Rattle.model_events.specs.declared.event.Then.{Then}
-use Rattle.model_events.specs.declared.patience.Patience.{Patience}
-use Rattle.model_events.specs.declared.row.Intent.{Intent}
-use Rattle.model_events.specs.declared.row.After.{After}
+use Rattle.model_events.specs.Types.{WaitAction, Word, Act, Answer, Then, Patience, Intent, After}
 
 -- the act of a step that is to do this, at words that hold this
 abbrev pub carried_out : {T : Type 0} → Intent T → (Word → ℕ) → Act T

@@ -1,7 +1,6 @@
 -- Runs: the events of a schedule, one for each input, in order.
 use Rattle.std.specs.Prelude.{ℕ, List, [], ◌∷◌}
-use Rattle.model_events.specs.declared.event.Event.{Event}
-use Rattle.model_events.specs.declared.event.Input.{Input}
+use Rattle.model_events.specs.Types.{Event, Input}
 use Rattle.model_events.specs.Arithmetic.{Arithmetic}
 use Rattle.model_events.specs.Tables.{Table}
 use Rattle.model_events.specs.Moves.{IsNext}

@@ -1,11 +1,6 @@
 -- How a call of a lock with read and write holds ends: what it answers, by the hold that its party has then.
 use Rattle.std.specs.Prelude.{◌≡◌, List, [], ◌∷◌, Option, Some, None, MatchOption}
-use Rattle.model_events.specs.declared.event.Call.{Call}
-use Rattle.model_events.specs.declared.event.Act.{Act}
-use Rattle.model_events.specs.declared.event.Answer.{Answer}
-use Rattle.model_events.specs.declared.event.Then.{Then}
-use Rattle.model_events.specs.declared.event.Event.{Event}
-use Rattle.model_events.specs.declared.hold.HoldKind.{HoldKind}
+use Rattle.model_events.specs.Types.{Call, Act, Answer, Then, Event, HoldKind}
 use Rattle.model_events.specs.Past.{PendingCall, call_of, hold_of}
 use Rattle.model_events.specs.Tables.{Table}
 

@@ -1,11 +1,7 @@
 -- How a reader comes into a lock with read and write holds, by its own steps so far: at which values a reader may enter, and by how much a read hold
 -- raises the word, is each lock's own.
 use Rattle.std.specs.Prelude.{ℕ, ◌+◌, ◌-◌, ◌^◌, Bool, if◌then◌else◌, List, Option, Some, None, MatchOption}
-use Rattle.model_events.specs.declared.event.Word.{Word}
-use Rattle.model_events.specs.declared.event.Act.{Act}
-use Rattle.model_events.specs.declared.event.Event.{Event}
-use Rattle.model_events.specs.declared.event.Answer.{Answer}
-use Rattle.model_events.specs.declared.event.Then.{Then}
+use Rattle.model_events.specs.Types.{Word, Act, Event, Answer, Then}
 use Rattle.model_events.specs.NextStep.{seen_last, Loads, Exchanges}
 
 abbrev pub gives_up : {T : Type 0} → ℕ → Then T

@@ -1,10 +1,6 @@
 -- What a call has seen and been told.
 use Rattle.std.specs.Prelude.{◌≡◌, ℕ, ◌+◌, ◌==◌, ◌&&◌, Bool, true, false, List, [], ◌∷◌, MatchBool, MatchOption, if◌then◌else◌, Option, Some, None, is_some}
-use Rattle.model_events.specs.declared.WaitAction.{WaitAction}
-use Rattle.model_events.specs.declared.event.Word.{Word}
-use Rattle.model_events.specs.declared.event.Act.{Act}
-use Rattle.model_events.specs.declared.event.Then.{Then}
-use Rattle.model_events.specs.declared.event.Event.{Event}
+use Rattle.model_events.specs.Types.{WaitAction, Word, Act, Then, Event}
 use Rattle.model_events.specs.Past.{same_word, call_of, is_failure}
 
 -- what an act tells that the word held: a sight of it

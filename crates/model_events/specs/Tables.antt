@@ -1,11 +1,6 @@
 -- What a primitive is: where its calls begin, what the step at each place is to do, and where a call goes on from there.
 use Rattle.std.specs.Prelude.{ℕ, Bool, Option}
-use Rattle.model_events.specs.declared.WaitAction.{WaitAction}
-use Rattle.model_events.specs.declared.event.Word.{Word}
-use Rattle.model_events.specs.declared.event.Call.{Call}
-use Rattle.model_events.specs.declared.hold.HoldKind.{HoldKind}
-use Rattle.model_events.specs.declared.row.Intent.{Intent}
-use Rattle.model_events.specs.declared.row.After.{After}
+use Rattle.model_events.specs.Types.{WaitAction, Word, Call, HoldKind, Intent, After}
 
 -- P is the type of its places
 pub record Table (T P : Type 0) : Type 0 where

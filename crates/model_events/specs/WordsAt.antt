@@ -1,7 +1,6 @@
 -- The words of an object, by their names.
 use Rattle.std.specs.Prelude.{ℕ}
-use Rattle.model_events.specs.declared.event.Word.{Word}
-use Rattle.model_events.specs.declared.words.Words.{Words}
+use Rattle.model_events.specs.Types.{Word, Words}
 
 abbrev pub word_at : Words → Word → ℕ
 word_at w Word.State = w.state

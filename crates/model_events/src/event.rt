@@ -24,7 +24,7 @@ pub enum Word {
 }
 
 /// A call of a wake closure.
-#[derive(Clone, Copy)]
+#[derive(Clone, Copy, PartialEq, Eq)]
 pub enum Wake {
     /// It wakes one that waits.
     One,
@@ -35,7 +35,7 @@ pub enum Wake {
 /// A call of a party at the object, named as in the Rust crate.
 ///
 /// Each object has some of them. The values that the calls of an `Atomic` bring are of its integer type `T`.
-#[derive(Copy)]
+#[derive(Copy, PartialEq, Eq)]
 pub enum Call<T> {
     /// Takes the lock; waits while it is held.
     Lock,
@@ -169,7 +169,7 @@ impl<T: Copy> Clone for Act<T> {
 }
 
 /// What a call answers.
-#[derive(Copy)]
+#[derive(Copy, PartialEq, Eq)]
 pub enum Answer<T> {
     /// The hold or the permit is taken.
     Success,
@@ -206,7 +206,7 @@ impl<T: Copy> Clone for Answer<T> {
 }
 
 /// How a call stands after an event.
-#[derive(Copy)]
+#[derive(Copy, PartialEq, Eq)]
 pub enum Then<T> {
     /// It goes on by itself.
     GoesOn,

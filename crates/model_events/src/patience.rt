@@ -7,7 +7,7 @@ use crate::row::After;
 use crate::{SPIN_REPETITIONS, WaitAction};
 
 /// How often a waiting call has spun, and whether it keeps on asking: it does until its wait closure has answered `Abort`.
-#[derive(Clone, Copy)]
+#[derive(Clone, Copy, PartialEq, Eq)]
 pub struct Patience {
     pub spins: u64,
     pub keep: bool,

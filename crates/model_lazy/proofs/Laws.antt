@@ -1,34 +1,19 @@
 -- A lazy value keeps its law at every prefix of every run. The word and the closure are those of the once inside.
-use Rattle.std.proofs.Common.{◌≡◌, ℕ, ◌≤◌, ◌==◌, refl, sym, ◌∙◌, ap, subst, Bool, true, false, cond, List, [], ◌∷◌, Option, Some, inl, inr, arith}
-use Rattle.std.specs.Prelude.{IfSome, MatchBool, MatchOption, not}
-use Rattle.std.proofs.lemmas.Bool.{eqb-true}
-use Rattle.model_events.specs.declared.event.Word.{Word}
-use Rattle.model_events.specs.declared.event.Call.{Call}
-use Rattle.model_events.specs.declared.event.Act.{Act}
-use Rattle.model_events.specs.declared.event.Answer.{Answer}
-use Rattle.model_events.specs.declared.event.Event.{Event}
-use Rattle.model_events.specs.declared.event.Then.{Then}
-use Rattle.model_events.specs.declared.hold.HoldKind.{HoldKind}
-use Rattle.model_events.specs.Arithmetic.{Arithmetic}
-use Rattle.model_events.specs.Rows.{carried_out, value_told, outcome_of, place_after}
-use Rattle.model_events.specs.Past.{same_word, PendingCall, call_of, hold_of, word_in, word_after, event}
-use Rattle.model_events.specs.Moves.{Move, step_at, is_step}
-use Rattle.model_events.specs.Runs.{IsPast}
-use Rattle.model_events.specs.Sights.{AtLast, is_exchange, last_of}
-use Rattle.model_events.specs.Laws.{IsTold, Lacks, is_refusal}
-use Rattle.model_events.proofs.Holds.{some_same, no_holds, exclusive_unheld}
-use Rattle.model_events.proofs.Steps.{by_move, tells_memory}
-use Rattle.model_events.proofs.Parties.{IsKept, at_place}
-use Rattle.model_events.proofs.NextStep.{steps_as}
-use Rattle.model_events.proofs.Own.{IsCallAfter, call_was}
+use Rattle.std.proofs.lemmas.Bool.Decides.{nat_tests}
+use Rattle.std.proofs.Common.{◌≡◌, ℕ, ◌≤◌, ◌==◌, refl, ◌∙◌, subst, Bool, true, false, cond, List, [], ◌∷◌, Option, Some, inl, inr, arith}
+use Rattle.std.specs.Prelude.{IfSome, MatchBool, MatchOption}
+use Rattle.std.proofs.lemmas.Bool.{eqb-true, eqb-false}
+use Rattle.model_events.specs.Exports.{Arithmetic, outcome_of, same_word, PendingCall, call_of, hold_of, word_in, word_after, event, Move, step_at, is_step, IsPast, AtLast, last_of, IsTold, Lacks, is_refusal}
+use Rattle.model_events.specs.declared.{event.Act.Act, event.Answer.Answer, event.Call.Call, event.Event.Event, event.Then.Then, event.Word.Word, hold.HoldKind.HoldKind}
+use Rattle.model_events.proofs.Exports.{no_holds, exclusive_unheld, by_move, tells_memory, IsKept, at_place, steps_as, IsCallAfter, call_was}
 use Rattle.model_once.specs.declared.OncePlace.{OncePlace}
 use Rattle.model_once.specs.Table.{found_after}
-use Rattle.model_once.specs.Closures.{is_begin, is_end, is_load, begins_in, ends_in, has_tried, RunsOnce}
-use Rattle.model_once.proofs.Laws.{AtOnce, seen_after, begin_after, closure_intent, has_begun}
-use Rattle.model_once.proofs.ClosureSteps.{IsLed, look_led, stay_led, begin_led, miss_led, quiet_led, looked, look_runs, stay_runs, begin_runs, end_runs, complete_runs}
-use Rattle.model_once.proofs.Closures.{is_miss, missed_since, IsClosureIntent, RunsOneClosure, at_most_one, complete_ended, closure_prefix, stays_complete, tells_state, own_began}
+use Rattle.model_once.specs.Closures.{is_begin, is_end, is_load, begins_in, ends_in}
+use Rattle.model_once.proofs.Laws.{AtOnce, has_begun}
+use Rattle.model_once.proofs.ClosureSteps.{IsLed}
+use Rattle.model_once.proofs.Closures.{missed_since, IsClosureIntent, RunsOneClosure, at_most_one, complete_ended, closure_prefix, stays_complete, tells_state, own_began}
 use Rattle.model_lazy.specs.declared.LazyPlace.{LazyPlace}
-use Rattle.model_lazy.specs.Table.{lazy_table, lazy_begins, lazy_intent, reads_next, lazy_after}
+use Rattle.model_lazy.specs.Table.{lazy_table, lazy_intent, reads_next}
 use Rattle.model_lazy.specs.Law.{LazyCause, is_read, shows_end, has_shown, LazyStep, KeepsLazy}
 
 -- What is kept of a call at its place.
@@ -56,87 +41,17 @@ pub record AtLazy {T : Type 0} (place : LazyPlace) (c : PendingCall T) (hold : O
 
 -- Where a call begins.
 
-begins_at : {T : Type 0} (call : Call T) (place : LazyPlace) (hold : Option HoldKind) → lazy_begins call ≡ Some place → AtLazy {T = T} place (record { call = call; own = [] }) hold
-begins_at {T} Call.Force place hold is = subst (λ p. AtLazy {T = T} p (record { call = Call.Force; own = [] }) hold) (some_same (LazyPlace.Once OncePlace.Look) place is) (record { call = refl; own = refl; led = ((refl, refl), refl) })
-begins_at other place hold is = absurd cc
-
 -- Where a step leads.
-
--- a look at this word, by whether it saw 2
-look_leads :
-    {T : Type 0} (c : PendingCall T) (hold : Option HoldKind) (w number : ℕ) (outcome : Then T) (on : OncePlace) (next : LazyPlace) (complete : Bool) → c.call ≡ Call.Force →
-    IsAt (LazyPlace.Once on) (record { call = c.call; own = event number (Act.Load Word.State w) outcome ∷ c.own }) hold → (w == 2) ≡ complete → (complete ≡ false → IsLed on (event number (Act.Load Word.State w) outcome ∷ c.own)) →
-    place_after {T = T} (reads_next (seen_after on complete)) ≡ Some next → AtLazy next (record { call = c.call; own = event number (Act.Load Word.State w) outcome ∷ c.own }) hold
-look_leads {T} c hold w number outcome on next true force here sees led is =
-    subst (λ p. AtLazy {T = T} p (record { call = c.call; own = event number (Act.Load Word.State w) outcome ∷ c.own }) hold) (some_same LazyPlace.Read next is)
-    (record { call = force; own = rw sees refl; led = sees })
-look_leads {T} c hold w number outcome on next false force here sees led is =
-    subst (λ p. AtLazy {T = T} p (record { call = c.call; own = event number (Act.Load Word.State w) outcome ∷ c.own }) hold) (some_same (LazyPlace.Once on) next is)
-    (record { call = force; own = here; led = (led refl, sees) })
-
--- the exchange, by whether it was done
-exchange_leads :
-    {T : Type 0} (c : PendingCall T) (hold : Option HoldKind) (w number : ℕ) (outcome : Then T) (next : LazyPlace) (done : Bool) → c.call ≡ Call.Force → place_after {T = T} (reads_next (begin_after done)) ≡ Some next →
-    AtLazy next (record { call = c.call; own = event number (Act.Exchange Word.State 0 1 w done) outcome ∷ c.own }) hold
-exchange_leads {T} c hold w number outcome next true force is =
-    subst (λ p. AtLazy {T = T} p (record { call = c.call; own = event number (Act.Exchange Word.State 0 1 w true) outcome ∷ c.own }) hold) (some_same (LazyPlace.Once OncePlace.Run) next is)
-    (record { call = force; own = refl; led = (begin_led c.own w number outcome, refl) })
-exchange_leads {T} c hold w number outcome next false force is =
-    subst (λ p. AtLazy {T = T} p (record { call = c.call; own = event number (Act.Exchange Word.State 0 1 w false) outcome ∷ c.own }) hold) (some_same (LazyPlace.Once OncePlace.Stay) next is)
-    (record { call = force; own = refl; led = (miss_led c.own w number outcome, refl) })
-
-steps_at :
-    {T : Type 0} (v : T) (place : LazyPlace) (c : PendingCall T) (hold left : Option HoldKind) (memory : Word → ℕ) (number : ℕ) (next : LazyPlace) → AtLazy place c hold →
-    place_after {T = T} (lazy_after v place (value_told {T = T} (carried_out (lazy_intent v Word.State place) memory))) ≡ Some next →
-    AtLazy next (record { call = c.call; own = event number (step_at (lazy_table v) place hold memory).act (step_at (lazy_table v) place hold memory).outcome ∷ c.own }) left
-steps_at v (LazyPlace.Once OncePlace.IsCompleted) c hold left memory number next at is = absurd at.own
-steps_at v (LazyPlace.Once OncePlace.Look) c hold left memory number next at is = look_leads c left (memory Word.State) number _ OncePlace.Begin next (memory Word.State == 2) at.call tt refl (λ sees. look_led c.own (memory Word.State) number (step_at (lazy_table v) (LazyPlace.Once OncePlace.Look) hold memory).outcome sees at.led.0.1) is
-steps_at v (LazyPlace.Once OncePlace.Begin) c hold left memory number next at is = exchange_leads c left (memory Word.State) number _ next (memory Word.State == 0) at.call is
-steps_at {T} v (LazyPlace.Once OncePlace.Run) c hold left memory number next at is =
-    subst (λ p. AtLazy {T = T} p (record { call = c.call; own = event number Act.Ended Then.GoesOn ∷ c.own }) left) (some_same (LazyPlace.Once OncePlace.Complete) next is)
-    (record { call = at.call; own = omega arith; led = (refl, refl) })
-steps_at {T} v (LazyPlace.Once OncePlace.Complete) c hold left memory number next at is =
-    subst (λ p. AtLazy {T = T} p (record { call = c.call; own = event number (Act.Store Word.State 2) Then.GoesOn ∷ c.own }) left) (some_same LazyPlace.Read next is)
-    (record { call = at.call; own = refl; led = refl })
-steps_at v (LazyPlace.Once OncePlace.Stay) c hold left memory number next at is = look_leads c left (memory Word.State) number _ OncePlace.Stay next (memory Word.State == 2) at.call at.own refl (λ sees. stay_led c.own (memory Word.State) number (step_at (lazy_table v) (LazyPlace.Once OncePlace.Stay) hold memory).outcome sees at.led.0.1) is
-steps_at v LazyPlace.Read c hold left memory number next at is = absurd cc
 
 -- no call of a lazy value stands, but an answer of a closure would change nothing
 
-stays_here :
-    {T : Type 0} (place : LazyPlace) (c : PendingCall T) (hold : Option HoldKind) (e : Event T) → is_step e.act ≡ false → is_miss e.act ≡ false → is_begin e.act ≡ false → is_end e.act ≡ false → shows_end e.act ≡ false →
-    IsAt place c hold → IsAt {T = T} place (record { call = c.call; own = e ∷ c.own }) hold
-stays_here (LazyPlace.Once OncePlace.IsCompleted) c hold e quiet misses begins ends shows at = at
-stays_here (LazyPlace.Once OncePlace.Look) c hold e quiet misses begins ends shows at = rw quiet at
-stays_here (LazyPlace.Once OncePlace.Begin) c hold e quiet misses begins ends shows at = tt
-stays_here (LazyPlace.Once OncePlace.Run) c hold e quiet misses begins ends shows at = rw (begins, ends) at
-stays_here (LazyPlace.Once OncePlace.Complete) c hold e quiet misses begins ends shows at = rw ends (omega (arith, at))
-stays_here (LazyPlace.Once OncePlace.Stay) c hold e quiet misses begins ends shows at = rw misses at
-stays_here LazyPlace.Read c hold e quiet misses begins ends shows at = rw shows at
-
-stays_led : {T : Type 0} (place : LazyPlace) (own : List (Event T)) (e : Event T) → is_step e.act ≡ false → is_exchange e.act ≡ false → IsWhereLed place own → IsWhereLed place (e ∷ own)
-stays_led (LazyPlace.Once place) own e quiet misses led = (quiet_led place own e quiet misses led.0, rw quiet led.1)
-stays_led LazyPlace.Read own e quiet misses led = rw quiet led
-
 pub lazy_kept : {T : Type 0} (v : T) → IsKept (lazy_table v) AtLazy
-lazy_kept v =
-    record {
-      begins = λ call place hold is allowed. begins_at call place hold is;
-      steps = λ place c hold memory number next at free is. steps_at v place c hold _ memory number next at is;
-      answers = λ place c hold action number at waits. record { call = at.call; own = stays_here place c hold (event number (Act.Answered action) Then.GoesOn) refl refl refl refl refl at.own; led = stays_led place c.own (event number (Act.Answered action) Then.GoesOn) refl refl at.led };
-      chooses = λ place c hold choice number at waits. record { call = at.call; own = stays_here place c hold (event number (Act.Chosen choice) Then.GoesOn) refl refl refl refl refl at.own; led = stays_led place c.own (event number (Act.Chosen choice) Then.GoesOn) refl refl at.led };
-    }
+lazy_kept v = grind (arith, nat_tests, eqb-true, eqb-false)
 
 -- A lazy value runs one closure.
 
 lazy_closure_intent : {T : Type 0} (v : T) (place : LazyPlace) (c : PendingCall T) (hold : Option HoldKind) → IsAt place c hold → IsClosureIntent {T = T} c.own (lazy_intent v Word.State place)
-lazy_closure_intent v (LazyPlace.Once OncePlace.IsCompleted) c hold at = absurd at
-lazy_closure_intent v (LazyPlace.Once OncePlace.Look) c hold at = closure_intent OncePlace.Look c hold at
-lazy_closure_intent v (LazyPlace.Once OncePlace.Begin) c hold at = closure_intent OncePlace.Begin c hold at
-lazy_closure_intent v (LazyPlace.Once OncePlace.Run) c hold at = closure_intent OncePlace.Run c hold at
-lazy_closure_intent v (LazyPlace.Once OncePlace.Complete) c hold at = closure_intent OncePlace.Complete c hold at
-lazy_closure_intent v (LazyPlace.Once OncePlace.Stay) c hold at = closure_intent OncePlace.Stay c hold at
-lazy_closure_intent v LazyPlace.Read c hold at = tt
+lazy_closure_intent v place c hold h1 = grind (arith, nat_tests, eqb-true, eqb-false)
 
 runs_one : {T : Type 0} (z : Arithmetic T) (v : T) (parties : ℕ) → RunsOneClosure z (lazy_table v) parties
 runs_one z v parties =
@@ -148,9 +63,7 @@ runs_one z v parties =
 -- What a call has seen of the end stays so.
 
 shown_here : {T : Type 0} (act : Act T) (memory : Word → ℕ) → IsTold act memory → shows_end act ≡ true → word_after Word.State act (memory Word.State) ≡ 2
-shown_here (Act.Load Word.State seen) memory told shows = sym told ∙ eqb-true seen 2 shows
-shown_here (Act.Store Word.State put) memory told shows = eqb-true put 2 shows
-shown_here other memory told shows = absurd cc
+shown_here act memory h1 h2 = grind (arith, nat_tests, eqb-true, eqb-false)
 
 two_since :
     {T : Type 0} (z : Arithmetic T) (v : T) (parties : ℕ) (past : List (Event T)) → IsPast z (lazy_table v) parties past → (party : ℕ) (c : PendingCall T) → call_of party past ≡ Some c → has_seen_end c.own ≡ true →
@@ -183,33 +96,14 @@ pub record EventLaw {T : Type 0} (v : T) (party : ℕ) (past : List (Event T)) (
 
 -- a step in the once inside goes on
 goes_on_at : (T : Type 0) (place : OncePlace) (found : ℕ) → outcome_of {T = T} (reads_next (found_after place found)) ≡ Then.GoesOn
-goes_on_at T OncePlace.IsCompleted found = refl
-goes_on_at T OncePlace.Look found = by_test (found == 2)
-  where
-    by_test : (b : Bool) → outcome_of {T = T} (reads_next (seen_after OncePlace.Begin b)) ≡ Then.GoesOn
-    by_test true = refl
-    by_test false = refl
-goes_on_at T OncePlace.Begin found = by_test (found == 0)
-  where
-    by_test : (b : Bool) → outcome_of {T = T} (reads_next (begin_after b)) ≡ Then.GoesOn
-    by_test true = refl
-    by_test false = refl
-goes_on_at T OncePlace.Run found = refl
-goes_on_at T OncePlace.Complete found = refl
-goes_on_at T OncePlace.Stay found = by_test (found == 2)
-  where
-    by_test : (b : Bool) → outcome_of {T = T} (reads_next (seen_after OncePlace.Stay b)) ≡ Then.GoesOn
-    by_test true = refl
-    by_test false = refl
+goes_on_at T place found = grind (arith, nat_tests, eqb-true, eqb-false)
 
 -- a step that goes on, and reads nothing
 goes_on_law :
     {T : Type 0} (v : T) (party : ℕ) (past : List (Event T)) (c : PendingCall T) (act : Act T) (outcome : Then T) → outcome ≡ Then.GoesOn → is_read act ≡ false →
     MatchBool (is_end act) (AtLast is_begin (λ before. begins_in before ≡ 0) party past) (Unit {0}) →
     MatchBool (is_load act) (IfSome (last_of is_step c.own) (λ before. 1 ≤ begins_in past)) (Unit {0}) → EventLaw v party past (Some c) (record { act = act; outcome = outcome })
-goes_on_law {T} v party past c act outcome goes reads ends waits =
-    subst (λ (o : Then T). EventLaw v party past (Some c) (record { act = act; outcome = o })) (sym goes)
-    (record { cause = tt; own = ends; waits = waits; answers = rw reads refl })
+goes_on_law v party past c act outcome h1 h2 h3 h4 = grind (arith, nat_tests, eqb-true, eqb-false)
 
 step_law :
     {T : Type 0} (z : Arithmetic T) (v : T) (parties party : ℕ) (past : List (Event T)) → IsPast z (lazy_table v) parties past → (c : PendingCall T) → call_of party past ≡ Some c →
@@ -250,30 +144,10 @@ event_law {T} z v parties past e run =
 
 -- each step is its call's next
 
--- a look goes on, whatever it saw
-looked_on : {T : Type 0} (w : ℕ) → looked {T = T} Then.GoesOn w ≡ Then.GoesOn
-looked_on {T} w = by_test (w == 2)
-  where
-    by_test : (b : Bool) → ◌≡◌ {A = Then T} (cond b Then.GoesOn Then.GoesOn) Then.GoesOn
-    by_test true = refl
-    by_test false = refl
-
-look_on : {T : Type 0} (own : List (Event T)) (w : ℕ) → IsLed OncePlace.Look own → RunsOnce Then.GoesOn (has_tried own) (last_of is_step own) (Act.Load Word.State w) Then.GoesOn
-look_on {T} own w led = subst (λ (o : Then T). RunsOnce Then.GoesOn (has_tried own) (last_of is_step own) (Act.Load Word.State w) o) (looked_on w) (look_runs Then.GoesOn own w led)
-
-stay_on : {T : Type 0} (own : List (Event T)) (w : ℕ) → IsLed OncePlace.Stay own → RunsOnce Then.GoesOn (has_tried own) (last_of is_step own) (Act.Load Word.State w) Then.GoesOn
-stay_on {T} own w led = subst (λ (o : Then T). RunsOnce Then.GoesOn (has_tried own) (last_of is_step own) (Act.Load Word.State w) o) (looked_on w) (stay_runs Then.GoesOn own w led)
-
 lazy_step :
     {T : Type 0} (v : T) (place : LazyPlace) (c : PendingCall T) (hold : Option HoldKind) (memory : Word → ℕ) → AtLazy place c hold →
     LazyStep v c.call c.own (step_at (lazy_table v) place hold memory).act (step_at (lazy_table v) place hold memory).outcome
-lazy_step v (LazyPlace.Once OncePlace.IsCompleted) c hold memory at = absurd at.own
-lazy_step {T} v (LazyPlace.Once OncePlace.Look) c hold memory at = rw (at.call, at.led.1, goes_on_at T OncePlace.Look (memory Word.State)) (look_on c.own (memory Word.State) at.led.0)
-lazy_step {T} v (LazyPlace.Once OncePlace.Begin) c hold memory at = rw (at.call, at.led.1, goes_on_at T OncePlace.Begin (memory Word.State)) (begin_runs Then.GoesOn c.own (memory Word.State) (memory Word.State == 0) at.led.0)
-lazy_step v (LazyPlace.Once OncePlace.Run) c hold memory at = rw (at.call, at.led.1) (end_runs Then.GoesOn c.own at.led.0)
-lazy_step v (LazyPlace.Once OncePlace.Complete) c hold memory at = rw (at.call, at.led.1) (complete_runs Then.GoesOn c.own at.led.0)
-lazy_step {T} v (LazyPlace.Once OncePlace.Stay) c hold memory at = rw (at.call, at.led.1, goes_on_at T OncePlace.Stay (memory Word.State)) (stay_on c.own (memory Word.State) at.led.0)
-lazy_step v LazyPlace.Read c hold memory at = rw (at.call, at.led) (refl, refl)
+lazy_step v place c hold memory h1 = grind (arith, nat_tests, eqb-true, eqb-false)
 
 pub keeps_lazy : {T : Type 0} (z : Arithmetic T) (v : T) (parties : ℕ) (past : List (Event T)) → IsPast z (lazy_table v) parties past → KeepsLazy v past
 keeps_lazy z v parties [] run =
@@ -304,10 +178,4 @@ keeps_lazy z v parties (e ∷ past) run =
 
 -- a lazy value has no other word
 pub lazy_lacks : (T : Type 0) (v : T) (word : Word) → same_word Word.State word ≡ false → Lacks (lazy_table v) word
-lazy_lacks T v word other (LazyPlace.Once OncePlace.IsCompleted) hold = ap not other
-lazy_lacks T v word other (LazyPlace.Once OncePlace.Look) hold = ap not other
-lazy_lacks T v word other (LazyPlace.Once OncePlace.Begin) hold = ap not other
-lazy_lacks T v word other (LazyPlace.Once OncePlace.Run) hold = refl
-lazy_lacks T v word other (LazyPlace.Once OncePlace.Complete) hold = ap not other
-lazy_lacks T v word other (LazyPlace.Once OncePlace.Stay) hold = ap not other
-lazy_lacks T v word other LazyPlace.Read hold = refl
+lazy_lacks T v word h1 = grind (arith, nat_tests, eqb-true, eqb-false)

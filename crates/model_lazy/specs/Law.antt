@@ -1,16 +1,7 @@
 -- What a lazy value keeps at every prefix of every run: one closure runs, once, and every answer is its value, read after its end.
 use Rattle.std.specs.Prelude.{◌≡◌, ◌≤◌, ℕ, ◌==◌, Bool, true, false, List, [], ◌∷◌, Option, Some, None, MatchBool}
-use Rattle.model_events.specs.declared.event.Word.{Word}
-use Rattle.model_events.specs.declared.event.Act.{Act}
-use Rattle.model_events.specs.declared.event.Answer.{Answer}
-use Rattle.model_events.specs.declared.event.Call.{Call}
-use Rattle.model_events.specs.declared.event.Then.{Then}
-use Rattle.model_events.specs.declared.event.Event.{Event}
-use Rattle.model_events.specs.Past.{holds_of, word_in}
-use Rattle.model_events.specs.Moves.{is_step}
-use Rattle.model_events.specs.Sights.{last_of}
-use Rattle.model_events.specs.NextStep.{StepsAs}
-use Rattle.model_events.specs.Laws.{Keeps}
+use Rattle.model_events.specs.Exports.{holds_of, word_in, is_step, last_of, StepsAs, Keeps}
+use Rattle.model_events.specs.declared.{event.Act.Act, event.Answer.Answer, event.Call.Call, event.Event.Event, event.Then.Then, event.Word.Word}
 use Rattle.model_once.specs.Closures.{begins_in, ends_in, EndsItsOwn, WaitsForAnother, StaysTwo, TellsState, has_tried, RunsOnce}
 use Rattle.model_lazy.specs.Table.{lazy_table}
 

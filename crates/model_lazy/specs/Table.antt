@@ -1,11 +1,7 @@
 -- The calls of a lazy value, step for step: those of the once inside, and then a read of the cell.
 use Rattle.std.specs.Prelude.{ℕ, false, Option, Some, None}
-use Rattle.model_events.specs.declared.event.Word.{Word}
-use Rattle.model_events.specs.declared.event.Call.{Call}
-use Rattle.model_events.specs.declared.event.Answer.{Answer}
-use Rattle.model_events.specs.declared.row.Intent.{Intent}
-use Rattle.model_events.specs.declared.row.After.{After}
-use Rattle.model_events.specs.Tables.{Table}
+use Rattle.model_events.specs.Exports.{Table}
+use Rattle.model_events.specs.declared.{event.Answer.Answer, event.Call.Call, event.Word.Word, row.After.After, row.Intent.Intent}
 use Rattle.model_once.specs.declared.OncePlace.{OncePlace}
 use Rattle.model_once.specs.Table.{once_intent, once_after}
 use Rattle.model_lazy.specs.declared.LazyPlace.{LazyPlace}

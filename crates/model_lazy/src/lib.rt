@@ -14,7 +14,7 @@ use model_events::row::{After, Intent};
 use model_once::OncePlace;
 
 /// Where a party is in a call at a lazy value; each place is named for its next step.
-#[derive(Clone, Copy)]
+#[derive(Clone, Copy, PartialEq, Eq)]
 pub enum LazyPlace {
     /// A step of the once inside.
     Once(OncePlace),

@@ -1,19 +1,11 @@
 -- A mutex keeps its law at every prefix of every run.
-use Rattle.std.proofs.lemmas.Bool.Decides.{nat_tests}
-use Rattle.model_mutex.specs.Names.{MatchBool, MatchOption, not, nat_lt, WaitAction, Word, Wake, Call, Act, Answer, Event, Then, HoldKind, After, Table, carried_out, value_told, outcome_of, place_after, Hold, same_word, PendingCall, call_of, holds_of, hold_of, hold_taken, hold_after, word_in, latest_outcome, event, Move, step_at, hold_fault, answer_fault, choose_fault, is_step, sight_of, is_sight, keeps_asking, HasAborted, spins_in, WhereAsked, Lacks, is_refusal, Patience}
-use Rattle.model_mutex.proofs.Names.{◌≡◌, ◌≢◌, ◌≤◌, ℕ, ◌==◌, refl, sym, ◌∙◌, ap, subst, Bool, true, false, cond, is_some, List, [], ◌∷◌, Option, Some, None, ◌↔◌, inl, inr, arith, ◌<◌, eqb-true, eqb-false}
-use Rattle.model_events.specs.Arithmetic.{Arithmetic}
-use Rattle.model_events.specs.Runs.{IsPast}
-use Rattle.model_events.proofs.NextStep.{Descends, ends_within}
-use Rattle.model_events.proofs.Holds.{eqb_same, hold_of_same, some_same}
-use Rattle.model_events.proofs.Steps.{by_move, tells_memory}
-use Rattle.model_events.proofs.Parties.{IsKept, at_place}
-use Rattle.model_events.proofs.Asks.{waits_first, waits_as, spins_no_more}
-use Rattle.model_events.proofs.Locks.{IsLock, IsLockIntent, IsFreeOrHeld, lock_word, lock_exclusive, locked_at, free_exactly}
+use Rattle.model_mutex.specs.Names.{MatchBool, MatchOption, WaitAction, Word, Wake, Call, Act, Answer, Event, Then, HoldKind, Table, carried_out, value_told, place_after, same_word, PendingCall, call_of, holds_of, hold_of, hold_after, word_in, latest_outcome, event, Move, step_at, hold_fault, answer_fault, choose_fault, is_step, sight_of, is_sight, keeps_asking, spins_in, WhereAsked, Lacks, is_refusal}
+use Rattle.model_mutex.proofs.Names.{◌≡◌, ◌≢◌, ◌≤◌, ℕ, ◌==◌, refl, sym, ◌∙◌, subst, true, false, is_some, List, [], ◌∷◌, Option, Some, None, ◌↔◌, arith, ◌<◌, eqb-true, eqb-false, nat_tests, Descends, ends_within, hold_of_same, by_move, tells_memory, IsKept, at_place, waits_first, waits_as, spins_no_more, IsLock, IsLockIntent, IsFreeOrHeld, lock_word, lock_exclusive}
+use Rattle.model_events.specs.Exports.{Arithmetic, IsPast}
 use Rattle.model_mutex.specs.declared.MutexPlace.{MutexPlace}
-use Rattle.model_mutex.specs.Table.{mutex_table, mutex_begins, mutex_intent, mutex_after, mutex_answered, is_free}
-use Rattle.model_mutex.specs.Law.{LockCause, HasTried, answer_of, acts_of, IsLockAnswer, lock_spins, steps_on, IsLeftBy, MutexStep, KeepsMutex, mutex_most, mutex_waiting}
-use Rattle.model_mutex.proofs.LockSteps.{HasTriedSo, AtLock, lock_begins, LockLeads, lock_after, lock_leads, lock_goes_on, lock_answered, lock_chosen}
+use Rattle.model_mutex.specs.Table.{mutex_table, mutex_begins, mutex_intent, mutex_after, mutex_answered}
+use Rattle.model_mutex.specs.Law.{LockCause, HasTried, answer_of, acts_of, IsLockAnswer, lock_spins, steps_on, MutexStep, KeepsMutex, mutex_most, mutex_waiting}
+use Rattle.model_mutex.proofs.LockSteps.{HasTriedSo}
 
 -- What is kept of a call at its place.
 
@@ -34,12 +26,6 @@ begins_at call place hold h1 h2 = grind (arith, nat_tests, eqb-true, eqb-false)
 
 -- a call that is at an exchange of its `Lock`
 
--- an exchange after which it goes on took no hold
-pub lock_takes_none :
-    {T P : Type 0} (t : Table T P) (pending : Option (PendingCall T)) (own : List (Event T)) (number w : ℕ) (done : Bool) (a : After T MutexPlace) (next : MutexPlace) → (w == 0) ≡ done →
-    LockLeads own number w (Act.Exchange Word.State 0 1 w done) a → place_after a ≡ Some next → hold_taken t (Act.Exchange Word.State 0 1 w done) pending ≡ None
-lock_takes_none t pending own number w done a next h1 h2 h3 = grind (arith, nat_tests, eqb-true, eqb-false)
-
 pub steps_at :
     {T P : Type 0} (t : Table T P) (place : MutexPlace) (c : PendingCall T) (hold : Option HoldKind) (memory : Word → ℕ) (number : ℕ) (next : MutexPlace) → AtMutex place c hold →
     place_after {T = T} (mutex_after place (value_told {T = T} (carried_out (mutex_intent Word.State place) memory))) ≡ Some next →
@@ -52,9 +38,6 @@ steps_at t place c hold memory number next h1 h2 = grind (arith, nat_tests, eqb-
 -- no closure is asked where the call goes on by itself
 pub not_asked : {T : Type 0} (outcome : Then T) (A : Type 0) → outcome ≡ Then.GoesOn → answer_fault outcome ≡ None → A
 not_asked {T} outcome A goes waits = let no : answer_fault {T = T} Then.GoesOn ≡ None = subst (λ (o : Then T). answer_fault o ≡ None) goes waits in absurd cc
-
-pub not_chosen : {T : Type 0} (outcome : Then T) (A : Type 0) → outcome ≡ Then.GoesOn → choose_fault outcome ≡ None → A
-not_chosen {T} outcome A goes stands = let no : choose_fault {T = T} Then.GoesOn ≡ None = subst (λ (o : Then T). choose_fault o ≡ None) goes stands in absurd cc
 
 pub answers_at :
     {T : Type 0} (place : MutexPlace) (c : PendingCall T) (hold : Option HoldKind) (action : WaitAction) (number : ℕ) → AtMutex place c hold → answer_fault (latest_outcome c.own) ≡ None →
@@ -93,10 +76,6 @@ mutex_is_lock z parties =
 -- what is so of a call where it asks its wait closure
 abbrev pub IsAskedSo : {T : Type 0} → PendingCall T → Act T → ℕ → Type 0
 IsAskedSo c act told = (lock_spins c.call c.own ≡ 10000) × (sight_of Word.State act ≡ Some told) × (keeps_asking c.own ≡ true)
-
--- a word that is not free is 1
-pub held_at_one : (w : ℕ) (holds : List Hold) → IsFreeOrHeld w holds → w ≢ 0 → w ≡ 1
-held_at_one w holds h1 h2 = grind (arith, nat_tests, eqb-true, eqb-false)
 
 -- of a step of a mutex, alone or inside another object, where the party had this hold before it
 pub record EventLaw {T P : Type 0} (t : Table T P) (party : ℕ) (past : List (Event T)) (hold : Option HoldKind) (pending : Option (PendingCall T)) (m : Move T) : Type 0 where

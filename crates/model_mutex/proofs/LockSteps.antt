@@ -1,7 +1,7 @@
 -- What each exchange of a `Lock` leads to, by the events that the call has made for the lock alone: so it serves a lock inside another call too.
-use Rattle.model_mutex.specs.Names.{nat_lt, WaitAction, Word, Act, Answer, Event, Then, Patience, After, outcome_of, place_after, within, answered, latest_outcome, event, is_failure, failures_in, answer_fault, is_step, keeps_asking, spins_in, stands_at_wait, stands_in, exchanges_in}
-use Rattle.model_mutex.proofs.Names.{◌≡◌, ◌≢◌, ◌∙◌, ℕ, ◌+◌, ◌==◌, refl, sym, subst, Bool, true, false, cond, List, [], ◌∷◌, Option, Some, None, arith, eqb-true, eqb-false}
-use Rattle.model_events.proofs.Spins.{HasSpun, begun_spun, spins_left, spins_spent, answered_keep, waits_by}
+use Rattle.model_mutex.specs.Names.{nat_lt, Word, Act, Answer, Event, Then, Patience, After, within, latest_outcome, event, is_failure, failures_in, is_step, keeps_asking, spins_in, stands_at_wait, stands_in, exchanges_in}
+use Rattle.model_mutex.proofs.Names.{◌≡◌, ◌≢◌, ◌∙◌, ℕ, ◌+◌, ◌==◌, refl, Bool, true, false, cond, List, [], ◌∷◌, Some, arith, eqb-true, eqb-false, nat_tests}
+use Rattle.model_events.proofs.Spins.{HasSpun, begun_spun}
 use Rattle.model_mutex.specs.declared.MutexPlace.{MutexPlace}
 use Rattle.model_mutex.specs.Table.{mutex_after}
 use Rattle.model_mutex.specs.Law.{HasTriedAll}
@@ -44,77 +44,10 @@ lock_after patience free keep left =
 lock_leads_by :
     {T : Type 0} (word : Word) (patience : Patience) (own : List (Event T)) (number w : ℕ) (free keep left : Bool) → HasTriedSo patience own →
     (w == 0) ≡ free → patience.keep ≡ keep → nat_lt patience.spins 10000 ≡ left → LockLeads own number w (Act.Exchange word 0 1 w free) (lock_after patience free keep left)
-lock_leads_by word patience own number w true keep left tried is keeps spins = eqb-true w 0 is
-lock_leads_by word patience own number w false true true tried is keeps spins = (
-  record {
-    so = record { spun = omega (arith, tried.so.spun); keeps = tried.so.keeps; within_limit = spins_left patience.spins spins };
-    tried = omega (arith, tried.tried);
-    failed = omega (arith, tried.failed);
-    goes_on = omega (arith, tried.goes_on);
-    stands = λ waits. absurd cc;
-    gives_up = λ gave. let no : true ≡ false = sym keeps ∙ gave in absurd cc;
-  },
-  eqb-false w 0 is,
-)
-lock_leads_by word patience own number w false true false tried is keeps spins =
-    let all : patience.spins ≡ 10000 = spins_spent patience.spins tried.so.within_limit spins in (
-      record {
-        so = record { spun = omega (arith, tried.so.spun); keeps = tried.so.keeps; within_limit = tried.so.within_limit };
-        tried = omega (arith, tried.tried);
-        failed = omega (arith, tried.failed);
-        goes_on = omega (arith, tried.goes_on);
-        stands = λ waits. all;
-        gives_up = λ gave. all;
-      },
-      eqb-false w 0 is,
-      tried.so.spun ∙ all,
-      tried.so.keeps ∙ keeps,
-      refl,
-    )
-lock_leads_by word patience own number w false false left tried is keeps spins =
-    (eqb-false w 0 is, tried.so.keeps ∙ keeps, (omega (arith, tried.tried, tried.gives_up keeps), omega (arith, tried.failed)))
+lock_leads_by word patience own number w free keep left h1 h2 h3 h4 = grind (arith, nat_tests, eqb-true, eqb-false)
 
 pub lock_leads :
     {T : Type 0} (word : Word) (patience : Patience) (own : List (Event T)) (number w : ℕ) → HasTriedSo patience own →
     LockLeads own number w (Act.Exchange word 0 1 w (w == 0)) (mutex_after (MutexPlace.Lock patience) (Some w))
 lock_leads word patience own number w tried = lock_leads_by word patience own number w (w == 0) patience.keep (nat_lt patience.spins 10000) tried refl refl refl
 
--- where the call goes on, it is at an exchange again
-pub lock_goes_on :
-    {T : Type 0} (own : List (Event T)) (number w : ℕ) (act : Act T) (a : After T MutexPlace) (next : MutexPlace) → LockLeads own number w act a → place_after a ≡ Some next →
-    AtLock next (event number act (outcome_of a) ∷ own)
-lock_goes_on {T} own number w act (After.At place) next leads is =
-    let made : place ≡ next = cc in
-    subst (λ p. AtLock {T = T} p (event number act Then.GoesOn ∷ own)) made leads.0
-lock_goes_on {T} own number w act (After.Waits place seen) next leads is =
-    let made : place ≡ next = cc in
-    subst (λ p. AtLock {T = T} p (event number act (Then.Waits seen) ∷ own)) made leads.0
-lock_goes_on own number w act (After.Chooses place old) next leads is = absurd leads
-lock_goes_on own number w act (After.Ends answer) next leads is = absurd cc
-
--- an answer of its closure
-pub lock_answered :
-    {T : Type 0} (patience : Patience) (own : List (Event T)) (number : ℕ) (action : WaitAction) → HasTriedSo patience own → answer_fault (latest_outcome own) ≡ None →
-    HasTriedSo {T = T} (answered patience action) (event number (Act.Answered action) Then.GoesOn ∷ own)
-lock_answered patience own number action tried waits =
-    record {
-      so = record { spun = omega (arith, tried.so.spun); keeps = answered_keep patience.keep action own number tried.so.keeps; within_limit = tried.so.within_limit };
-      tried = omega (arith, tried.tried);
-      failed = omega (arith, tried.failed);
-      goes_on = omega (arith, tried.goes_on);
-      stands = λ stands. tried.stands (waits_by (latest_outcome own) waits);
-      gives_up = λ gave. tried.stands (waits_by (latest_outcome own) waits);
-    }
-
-pub lock_chosen :
-    {T : Type 0} (patience : Patience) (own : List (Event T)) (number : ℕ) (choice : Option T) → HasTriedSo patience own →
-    HasTriedSo {T = T} patience (event number (Act.Chosen choice) Then.GoesOn ∷ own)
-lock_chosen patience own number choice tried =
-    record {
-      so = record { spun = omega (arith, tried.so.spun); keeps = tried.so.keeps; within_limit = tried.so.within_limit };
-      tried = omega (arith, tried.tried);
-      failed = omega (arith, tried.failed);
-      goes_on = omega (arith, tried.goes_on);
-      stands = λ stands. absurd cc;
-      gives_up = tried.gives_up;
-    }

@@ -24,7 +24,7 @@ pub fn granted(word: u64) -> Option<u64>
 }
 
 /// Where a party is in a call at a mutex; each place is named for its next step.
-#[derive(Clone, Copy)]
+#[derive(Clone, Copy, PartialEq, Eq)]
 pub enum MutexPlace {
     /// The one exchange of `TryLock`.
     TryLock,

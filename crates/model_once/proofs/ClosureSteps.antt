@@ -1,9 +1,9 @@
 -- What a call has made that brings a closure, at each place of a once, and so that its step there is the next: by its own events alone, so it serves an
 -- object with a once inside too.
 use Rattle.model_once.specs.Names.{Word, Act, Event, Then, event, is_step, is_exchange, last_of}
-use Rattle.model_once.proofs.Names.{◌≡◌, ℕ, ◌==◌, refl, Bool, true, false, cond, List, ◌∷◌, Some, None, ◌⊎◌, inl, inr}
+use Rattle.model_once.proofs.Names.{◌≡◌, ℕ, ◌==◌, refl, Bool, true, false, cond, List, ◌∷◌, Some, None, ◌⊎◌, inl, inr, arith, eqb-true, eqb-false, nat_tests}
 use Rattle.model_once.specs.declared.OncePlace.{OncePlace}
-use Rattle.model_once.specs.Closures.{has_tried, RunsOnce}
+use Rattle.model_once.specs.Closures.{has_tried}
 
 -- its latest step was a look that saw no 2
 abbrev pub HasLooked : {T : Type 0} → List (Event T) → Type 0
@@ -37,12 +37,7 @@ miss_led own w number outcome = (inr (w, refl), refl)
 
 -- an answer of a closure is no step
 pub quiet_led : {T : Type 0} (place : OncePlace) (own : List (Event T)) (e : Event T) → is_step e.act ≡ false → is_exchange e.act ≡ false → IsLed place own → IsLed place (e ∷ own)
-quiet_led OncePlace.IsCompleted own e quiet misses led = rw quiet led
-quiet_led OncePlace.Look own e quiet misses led = rw (quiet, misses) led
-quiet_led OncePlace.Begin own e quiet misses led = rw (quiet, misses) led
-quiet_led OncePlace.Run own e quiet misses led = rw quiet led
-quiet_led OncePlace.Complete own e quiet misses led = rw quiet led
-quiet_led OncePlace.Stay own e quiet misses led = rw (quiet, misses) led
+quiet_led place own e h1 h2 h3 = grind (arith, nat_tests, eqb-true, eqb-false)
 
 -- Each step follows.
 
@@ -50,18 +45,3 @@ quiet_led OncePlace.Stay own e quiet misses led = rw (quiet, misses) led
 abbrev pub looked : {T : Type 0} → Then T → ℕ → Then T
 looked complete w = cond (w == 2) complete Then.GoesOn
 
-pub look_runs : {T : Type 0} (complete : Then T) (own : List (Event T)) (w : ℕ) → IsLed OncePlace.Look own → RunsOnce complete (has_tried own) (last_of is_step own) (Act.Load Word.State w) (looked complete w)
-look_runs complete own w led = rw led.0 refl
-
-pub stay_runs : {T : Type 0} (complete : Then T) (own : List (Event T)) (w : ℕ) → IsLed OncePlace.Stay own → RunsOnce complete (has_tried own) (last_of is_step own) (Act.Load Word.State w) (looked complete w)
-stay_runs complete own w (inl seen, later) = rw (seen.1, later) refl
-stay_runs complete own w (inr missed, later) = rw missed.1 refl
-
-pub begin_runs : {T : Type 0} (complete : Then T) (own : List (Event T)) (w : ℕ) (done : Bool) → IsLed OncePlace.Begin own → RunsOnce complete (has_tried own) (last_of is_step own) (Act.Exchange Word.State 0 1 w done) Then.GoesOn
-begin_runs complete own w done led = rw (led.0.1, led.1) (refl, refl, refl)
-
-pub end_runs : {T : Type 0} (complete : Then T) (own : List (Event T)) → IsLed OncePlace.Run own → RunsOnce complete (has_tried own) (last_of is_step own) Act.Ended Then.GoesOn
-end_runs complete own led = rw led.1 (refl, refl)
-
-pub complete_runs : {T : Type 0} (complete : Then T) (own : List (Event T)) → IsLed OncePlace.Complete own → RunsOnce complete (has_tried own) (last_of is_step own) (Act.Store Word.State 2) complete
-complete_runs complete own led = rw led (refl, refl)

@@ -1,6 +1,6 @@
 -- One closure, at any table whose word is a once's: a closure begins with an exchange of 0 for 1, ends in its own call, and is told by a store of 2.
-use Rattle.model_once.specs.Names.{MatchOption, Word, Act, Event, Intent, Arithmetic, carried_out, Table, PendingCall, call_of, hold_of, word_in, word_after, Move, stage_of, IsPast, AtLast, last_of, IsTold}
-use Rattle.model_once.proofs.Names.{◌≡◌, ◌≢◌, ℕ, zero, ◌+◌, ◌≤◌, ◌==◌, refl, sym, ◌∙◌, ap, subst, Bool, true, false, cond, List, [], ◌∷◌, Option, Some, None, ◌⊎◌, inl, inr, ◌↔◌, arith, eqb-true, eq-eqb, some_same, by_move, tells_memory, IsCallAfter, call_was, own_among, IsToldOf, own_at_last, at_last_maps}
+use Rattle.model_once.specs.Names.{MatchOption, Word, Act, Event, Intent, Arithmetic, Table, PendingCall, call_of, hold_of, word_in, word_after, stage_of, IsPast, AtLast, last_of, IsTold}
+use Rattle.model_once.proofs.Names.{◌≡◌, ◌≢◌, ℕ, zero, ◌+◌, ◌≤◌, ◌==◌, refl, ◌∙◌, subst, Bool, true, false, cond, List, [], ◌∷◌, Option, Some, None, ◌⊎◌, inl, inr, ◌↔◌, arith, eqb-true, tells_memory, IsCallAfter, call_was, own_among, IsToldOf, own_at_last, at_last_maps, eqb-false, nat_tests}
 use Rattle.model_once.specs.Closures.{is_begin, is_end, begins_in, ends_in, TellsState}
 
 -- the call's closure runs: it has begun, and not ended since
@@ -36,40 +36,16 @@ Effect pending w word begins ends =
 abbrev EffectOf : {T : Type 0} → Option (PendingCall T) → ℕ → Act T → Type 0
 EffectOf pending w act = Effect pending w (word_after Word.State act w) (is_begin act) (is_end act)
 
-begin_effect : {T : Type 0} (c : PendingCall T) (w from to : ℕ) (done : Bool) → from ≡ 0 → to ≡ 1 → (w == from) ≡ done → EffectOf (Some c) w (Act.Exchange Word.State from to w done)
-begin_effect c w from to true is_from is_to found = inr (inl (eqb-true w from found ∙ is_from, is_to, refl, refl))
-begin_effect c w from to false is_from is_to found = inl (refl, refl, refl)
-
-intent_effect : {T : Type 0} (c : PendingCall T) (memory : Word → ℕ) (intent : Intent T) → IsClosureIntent c.own intent → EffectOf (Some c) (memory Word.State) (carried_out intent memory)
-intent_effect c memory (Intent.Exchange Word.State from to) is = begin_effect c (memory Word.State) from to (memory Word.State == from) is.0 is.1 refl
-intent_effect c memory (Intent.Store Word.State put) is = inr (inr (inr (is.0, refl, refl, is.1)))
-intent_effect c memory Intent.End is = inr (inr (inl (refl, refl, refl, is)))
-intent_effect c memory (Intent.Swap Word.State put) is = absurd is
-intent_effect c memory (Intent.Add Word.State more) is = absurd is
-intent_effect c memory (Intent.Subtract Word.State less) is = absurd is
-intent_effect c memory other is = inl (refl, refl, refl)
-
 event_effect :
     {T P : Type 0} (z : Arithmetic T) (t : Table T P) (parties : ℕ) → RunsOneClosure z t parties → (past : List (Event T)) (e : Event T) → IsPast z t parties (e ∷ past) →
     EffectOf (call_of e.party past) (word_in t past Word.State) e.act
-event_effect {T} z t parties one past e run =
-    by_move t (call_of e.party past) (hold_of t e.party past) (word_in t past) (λ (k : Option (PendingCall T)) (m : Move T). EffectOf k (word_in t past Word.State) m.act)
-    run.0.0 (record { act = e.act; outcome = e.then })
-    (λ call _. inl (refl, refl, refl)) (λ action _. inl (refl, refl, refl)) (λ choice _. inl (refl, refl, refl))
-    (λ c place _ called stage. intent_effect c (word_in t past) (t.intent place (hold_of t e.party past)) (one.steps past e.party c place run.1 called stage))
-    run.0.1.moved
+event_effect z t parties h1 past e h2 = grind (arith, nat_tests, eqb-true, eqb-false)
 
 -- a word that is 2 is left so
 pub stays_complete :
     {T P : Type 0} (z : Arithmetic T) (t : Table T P) (parties : ℕ) → RunsOneClosure z t parties → (past : List (Event T)) (e : Event T) → IsPast z t parties (e ∷ past) →
     word_in t past Word.State ≡ 2 → word_in t (e ∷ past) Word.State ≡ 2
-stays_complete {T} z t parties one past e run complete = by_effect (call_of e.party past) (event_effect z t parties one past e run)
-  where
-    by_effect : (pending : Option (PendingCall T)) → EffectOf pending (word_in t past Word.State) e.act → word_in t (e ∷ past) Word.State ≡ 2
-    by_effect pending (inl quiet) = quiet.0 ∙ complete
-    by_effect pending (inr (inl first)) = absurd (omega (arith, first.0, complete))
-    by_effect pending (inr (inr (inl last))) = last.0 ∙ complete
-    by_effect pending (inr (inr (inr puts))) = puts.0
+stays_complete z t parties h1 past e h2 h3 = grind (arith, nat_tests, eqb-true, eqb-false)
 
 -- At every prefix.
 
@@ -93,18 +69,7 @@ state_after :
     ⊎ (((word ≡ w) × (begun ≡ false) × (ended ≡ true) × (ends ≡ 0) × (1 ≤ begins))
     ⊎ ((word ≡ 2) × (begun ≡ false) × (ended ≡ false) × (1 ≤ ends)))) →
     IsState word (cond begun 1 0 + begins) (cond ended 1 0 + ends)
-state_after w begins ends word begun ended (inl empty) (inl quiet) = rw (quiet.1, quiet.2) (inl (omega (arith, quiet.0, empty.0), omega (arith, empty.1), omega (arith, empty.2)))
-state_after w begins ends word begun ended (inr (inl runs)) (inl quiet) = rw (quiet.1, quiet.2) (inr (inl (omega (arith, quiet.0, runs.0), omega (arith, runs.1), omega (arith, runs.2))))
-state_after w begins ends word begun ended (inr (inr done)) (inl quiet) = rw (quiet.1, quiet.2) (inr (inr (omega (arith, quiet.0, done.0), omega (arith, done.1), omega (arith, done.2))))
-state_after w begins ends word begun ended (inl empty) (inr (inl first)) = rw (first.2, first.3) (inr (inl (first.1, omega (arith, empty.1), omega (arith, empty.2))))
-state_after w begins ends word begun ended (inr (inl runs)) (inr (inl first)) = absurd (omega (arith, runs.0, first.0))
-state_after w begins ends word begun ended (inr (inr done)) (inr (inl first)) = absurd (omega (arith, done.0, first.0))
-state_after w begins ends word begun ended (inl empty) (inr (inr (inl last))) = absurd (omega (arith, empty.1, last.4))
-state_after w begins ends word begun ended (inr (inl runs)) (inr (inr (inl last))) = rw (last.1, last.2) (inr (inl (omega (arith, last.0, runs.0), omega (arith, runs.1), omega (arith, last.3))))
-state_after w begins ends word begun ended (inr (inr done)) (inr (inr (inl last))) = absurd (omega (arith, done.2, last.3))
-state_after w begins ends word begun ended (inl empty) (inr (inr (inr puts))) = absurd (omega (arith, empty.2, puts.3))
-state_after w begins ends word begun ended (inr (inl runs)) (inr (inr (inr puts))) = rw (puts.1, puts.2) (inr (inr (puts.0, omega (arith, runs.1), omega (arith, runs.2, puts.3))))
-state_after w begins ends word begun ended (inr (inr done)) (inr (inr (inr puts))) = rw (puts.1, puts.2) (inr (inr (puts.0, omega (arith, done.1), omega (arith, done.2))))
+state_after w begins ends word begun ended h1 h2 = grind (arith, nat_tests, eqb-true, eqb-false)
 
 -- what the effect of an event is on the numbers, where the closure that ends runs alone
 numbered :
@@ -113,45 +78,20 @@ numbered :
     ⊎ (((w ≡ 0) × (word ≡ 1) × (begun ≡ true) × (ended ≡ false))
     ⊎ (((word ≡ w) × (begun ≡ false) × (ended ≡ true) × (ends_in past ≡ 0) × (1 ≤ begins_in past))
     ⊎ ((word ≡ 2) × (begun ≡ false) × (ended ≡ false) × (1 ≤ ends_in past))))
-numbered past party w word begun ended alone pending called (inl quiet) = inl quiet
-numbered past party w word begun ended alone pending called (inr (inl first)) = inr (inl first)
-numbered past party w word begun ended alone None called (inr (inr (inl last))) = absurd last.3
-numbered past party w word begun ended alone (Some c) called (inr (inr (inl last))) =
-    let own = alone party c called last.3 in
-    inr (inr (inl (last.0, last.1, last.2, own.0, own.1)))
-numbered past party w word begun ended alone None called (inr (inr (inr puts))) = absurd puts.3
-numbered past party w word begun ended alone (Some c) called (inr (inr (inr puts))) = inr (inr (inr (puts.0, puts.1, puts.2, omega (arith, puts.3, own_among is_end past party c called))))
+numbered past party w word begun ended h1 pending h2 h3 = grind (arith, nat_tests, eqb-true, eqb-false, own_among)
 
 -- another party's event leaves a closure that runs alone
 still_alone :
     {T : Type 0} (past : List (Event T)) (e : Event T) (party w word : ℕ) → IsState w (begins_in past) (ends_in past) → RunsAlone past → e.party ≢ party → (c : PendingCall T) → call_of party past ≡ Some c → is_running c.own ≡ true →
     (pending : Option (PendingCall T)) → call_of e.party past ≡ pending → Effect pending w word (is_begin e.act) (is_end e.act) → (ends_in (e ∷ past) ≡ 0) × (1 ≤ begins_in (e ∷ past)) × (runner_of (e ∷ past) ≡ Some party)
-still_alone past e party w word state alone other c called runs pending has (inl quiet) = let own = alone party c called runs in rw (quiet.1, quiet.2) (omega (arith, own.0), omega (arith, own.1), own.2)
-still_alone past e party w word (inl empty) alone other c called runs pending has (inr (inl first)) = absurd (omega (arith, empty.1, (alone party c called runs).1))
-still_alone past e party w word (inr (inl running)) alone other c called runs pending has (inr (inl first)) = absurd (omega (arith, running.0, first.0))
-still_alone past e party w word (inr (inr done)) alone other c called runs pending has (inr (inl first)) = absurd (omega (arith, done.0, first.0))
-still_alone past e party w word state alone other c called runs None has (inr (inr (inl last))) = absurd last.3
-still_alone past e party w word state alone other c called runs (Some k) has (inr (inr (inl last))) =
-    let one : runner_of past ≡ Some party = (alone party c called runs).2 in
-    let two : runner_of past ≡ Some e.party = (alone e.party k has last.3).2 in
-    absurd (other (some_same e.party party (sym two ∙ one)))
-still_alone past e party w word state alone other c called runs pending has (inr (inr (inr puts))) = let own = alone party c called runs in rw (puts.1, puts.2) (omega (arith, own.0), omega (arith, own.1), own.2)
+still_alone past e party w word h1 h2 h3 c h4 h5 pending h6 h7 = grind (arith, nat_tests, eqb-true, eqb-false)
 
 -- and so does the party's own, where its closure goes on or has just begun
 own_alone :
     {T : Type 0} (past : List (Event T)) (e : Event T) (party w word : ℕ) → IsState w (begins_in past) (ends_in past) → RunsAlone past → e.party ≡ party → (before : PendingCall T) → call_of party past ≡ Some before →
     cond (is_begin e.act) true (cond (is_end e.act) false (is_running before.own)) ≡ true →
     (pending : Option (PendingCall T)) → Effect pending w word (is_begin e.act) (is_end e.act) → (ends_in (e ∷ past) ≡ 0) × (1 ≤ begins_in (e ∷ past)) × (runner_of (e ∷ past) ≡ Some party)
-own_alone past e party w word state alone mine before called runs pending (inl quiet) =
-    let own = alone party before called (rw (quiet.1, quiet.2) at runs) in
-    rw (quiet.1, quiet.2) (omega (arith, own.0), omega (arith, own.1), own.2)
-own_alone past e party w word (inl empty) alone mine before called runs pending (inr (inl first)) = rw (first.2, first.3) (omega (arith, empty.2), omega arith, ap (λ p. Some p) mine)
-own_alone past e party w word (inr (inl running)) alone mine before called runs pending (inr (inl first)) = absurd (omega (arith, running.0, first.0))
-own_alone past e party w word (inr (inr done)) alone mine before called runs pending (inr (inl first)) = absurd (omega (arith, done.0, first.0))
-own_alone past e party w word state alone mine before called runs pending (inr (inr (inl last))) = let no : false ≡ true = rw (last.1, last.2) at runs in absurd cc
-own_alone past e party w word state alone mine before called runs pending (inr (inr (inr puts))) =
-    let own = alone party before called (rw (puts.1, puts.2) at runs) in
-    rw (puts.1, puts.2) (omega (arith, own.0), omega (arith, own.1), own.2)
+own_alone past e party w word h1 h2 h3 before h4 h5 pending h6 = grind (arith, nat_tests, eqb-true, eqb-false)
 
 pub record HasOneClosure {T P : Type 0} (t : Table T P) (past : List (Event T)) : Type 0 where
   pub state : IsState (word_in t past Word.State) (begins_in past) (ends_in past)
@@ -180,27 +120,13 @@ closure_prefix {T} z t parties one (e ∷ past) run = one_more (closure_prefix z
 -- What the word and the numbers tell.
 
 pub at_most_one : (w begins ends : ℕ) → IsState w begins ends → (begins ≤ 1) × (ends ≤ 1) × (ends ≤ begins)
-at_most_one w begins ends (inl empty) = (omega (arith, empty.1), omega (arith, empty.2), omega (arith, empty.2))
-at_most_one w begins ends (inr (inl runs)) = (omega (arith, runs.1), runs.2, omega (arith, runs.1, runs.2))
-at_most_one w begins ends (inr (inr done)) = (omega (arith, done.1), omega (arith, done.2), omega (arith, done.1, done.2))
+at_most_one w begins ends h1 = grind (arith, nat_tests, eqb-true, eqb-false)
 
 pub complete_ended : (w begins ends : ℕ) → IsState w begins ends → w ≡ 2 → ends ≡ 1
-complete_ended w begins ends (inl empty) is = absurd (omega (arith, empty.0, is))
-complete_ended w begins ends (inr (inl runs)) is = absurd (omega (arith, runs.0, is))
-complete_ended w begins ends (inr (inr done)) is = done.2
+complete_ended w begins ends h1 h2 = grind (arith, nat_tests, eqb-true, eqb-false)
 
 pub tells_state : {T P : Type 0} (t : Table T P) (past : List (Event T)) → IsState (word_in t past Word.State) (begins_in past) (ends_in past) → TellsState t past
-tells_state t past state = record { begun = begun state; ended = complete_ended _ _ _ state; known = known state }
-  where
-    begun : {w begins ends : ℕ} → IsState w begins ends → (w ≡ 0) ↔ (begins ≡ 0)
-    begun (inl empty) = (λ _. empty.1, λ _. empty.0)
-    begun (inr (inl runs)) = (λ is. absurd (omega (arith, runs.0, is)), λ is. absurd (omega (arith, runs.1, is)))
-    begun (inr (inr done)) = (λ is. absurd (omega (arith, done.0, is)), λ is. absurd (omega (arith, done.1, is)))
-
-    known : {w begins ends : ℕ} → IsState w begins ends → w ≤ 2
-    known (inl empty) = omega (arith, empty.0)
-    known (inr (inl runs)) = omega (arith, runs.0)
-    known (inr (inr done)) = omega (arith, done.0)
+tells_state t past h1 = grind (arith, nat_tests, eqb-true, eqb-false)
 
 -- A call that has missed: its exchange of 0 failed, so a closure has begun.
 
@@ -213,13 +139,10 @@ has_missed [] = false
 has_missed (e ∷ own) = cond (is_miss e.act) true (has_missed own)
 
 missed_at : {T : Type 0} (act : Act T) (memory : Word → ℕ) → IsTold act memory → is_miss act ≡ true → memory Word.State ≢ 0
-missed_at (Act.Exchange Word.State zero to found false) memory told missed = λ is. let no : true ≡ false = sym (eq-eqb found 0 (told.0 ∙ is)) ∙ sym told.1 in absurd cc
-missed_at other memory told missed = absurd cc
+missed_at act memory h1 h2 = grind (arith, nat_tests, eqb-true, eqb-false)
 
 some_begun : (w begins ends : ℕ) → IsState w begins ends → w ≢ 0 → 1 ≤ begins
-some_begun w begins ends (inl empty) other = absurd (other empty.0)
-some_begun w begins ends (inr (inl runs)) other = omega (arith, runs.1)
-some_begun w begins ends (inr (inr done)) other = omega (arith, done.1)
+some_begun w begins ends h1 h2 = grind (arith, nat_tests, eqb-true, eqb-false)
 
 pub missed_since :
     {T P : Type 0} (z : Arithmetic T) (t : Table T P) (parties : ℕ) → RunsOneClosure z t parties → (past : List (Event T)) → IsPast z t parties past → (party : ℕ) (c : PendingCall T) → call_of party past ≡ Some c →

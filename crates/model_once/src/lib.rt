@@ -22,7 +22,7 @@ pub fn begun(word: u64) -> Option<u64>
 }
 
 /// Where a party is in a call at a once; each place is named for its next step.
-#[derive(Clone, Copy)]
+#[derive(Clone, Copy, PartialEq, Eq)]
 pub enum OncePlace {
     /// The load of `IsCompleted`.
     IsCompleted,

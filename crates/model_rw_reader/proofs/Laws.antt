@@ -1,9 +1,6 @@
 -- A reader-preferring lock keeps its law at every prefix of every run.
 use Rattle.model_rw_reader.specs.Names.{MatchBool, MatchOption, Word, Call, Act, Answer, Event, Then, HoldKind, Patience, After, Arithmetic, outcome_of, within, refused, same_word, PendingCall, call_of, holds_of, hold_of, word_in, latest_outcome, event, Move, step_at, answer_fault, choose_fault, is_step, IsPast, sight_of, is_sight, keeps_asking, HasAborted, OtherWroteSinceSight, spins_in, WhereAsked, Lacks, is_refusal}
-use Rattle.model_rw_reader.proofs.Names.{◌≡◌, ℕ, ◌+◌, ◌-◌, ◌^◌, ◌<◌, ◌≤◌, ◌==◌, refl, sym, ◌∙◌, subst, Bool, true, false, cond, is_some, List, [], ◌∷◌, Option, Some, None, ◌⊎◌, ◌↔◌, arith, eqb-true, eqb-false, nat_tests, by_move, refused_asks, IsKept, at_place}
-use Rattle.model_events.proofs.Holds.{eqb_same}
-use Rattle.model_events.proofs.Spins.{HasSpun, refused_because}
-use Rattle.model_events.proofs.LastSights.{IsLook, kept_or_written}
+use Rattle.model_rw_reader.proofs.Names.{◌≡◌, ℕ, ◌+◌, ◌-◌, ◌^◌, ◌<◌, ◌≤◌, ◌==◌, refl, sym, ◌∙◌, subst, Bool, true, false, cond, is_some, List, [], ◌∷◌, Option, Some, None, ◌⊎◌, ◌↔◌, arith, eqb-true, eqb-false, nat_tests, by_move, refused_asks, IsKept, at_place, eqb_same, HasSpun, refused_because, IsLook, kept_or_written}
 use Rattle.model_rw_reader.specs.declared.RwReaderPlace.{RwReaderPlace}
 use Rattle.model_rw_reader.specs.Table.{lets_readers_in, read_look, rw_reader_table}
 use Rattle.model_rw_reader.specs.Law.{CountsHolds, RwReaderCause, is_in_vain, lock_spins, steps_in_vain}

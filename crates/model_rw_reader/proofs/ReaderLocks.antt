@@ -1,8 +1,6 @@
 -- A lock of many readers or one writer: an object whose word counts read holds, and is 2^64 - 1 with the write hold.
 use Rattle.model_rw_reader.specs.Names.{Word, Act, Event, HoldKind, Intent, Arithmetic, carried_out, Table, Hold, PendingCall, call_of, holds_of, hold_of, hold_among, word_in, word_after, without, reads_in, writes_in, Move, stage_of, IsPast, IsExclusive}
-use Rattle.model_rw_reader.proofs.Names.{◌≡◌, ◌≢◌, ℕ, ◌+◌, ◌-◌, ◌%◌, ◌^◌, ◌<◌, ◌≤◌, ◌==◌, refl, sym, ◌∙◌, ap, subst, Bool, true, false, cond, is_some, length, List, [], ◌∷◌, Option, Some, None, ◌⊎◌, inl, inr, ◌↔◌, arith, eqb-true, by_move}
-use Rattle.model_events.proofs.HoldCounts.{IsOneEach, without_one_each, without_counts, counted_of, both_kinds, unwritten_exclusive, written_exclusive}
-use Rattle.model_events.proofs.Locks.{holds_after, without_only}
+use Rattle.model_rw_reader.proofs.Names.{◌≡◌, ◌≢◌, ℕ, ◌+◌, ◌-◌, ◌%◌, ◌^◌, ◌<◌, ◌≤◌, ◌==◌, refl, sym, ◌∙◌, ap, subst, Bool, cond, is_some, length, List, [], ◌∷◌, Option, Some, None, ◌⊎◌, inl, inr, ◌↔◌, arith, eqb-true, by_move, eqb-false, nat_tests, IsOneEach, without_one_each, without_counts, counted_of, both_kinds, unwritten_exclusive, written_exclusive, holds_after, without_only}
 use Rattle.model_rw_reader.specs.Law.{CountsHolds}
 
 -- what a step of such an object may do to the lock's word: enter as a reader or as the writer, as far as its call grants that hold and its party has none; leave, by its party's hold
@@ -32,15 +30,7 @@ nobody = record { counts = inl (record { counts = refl; unwritten = refl; fits =
 -- A reader enters.
 
 one_reader_more : (p w to : ℕ) (holds : List Hold) → IsKeptWord w holds → hold_among p holds ≡ None → to ≡ w + 1 → w < 2 ^ 64 - 2 → IsKeptWord to ((p, HoldKind.Read) ∷ holds)
-one_reader_more p w to holds law none more fits = by_counts law.counts
-  where
-    by_counts : CountsHolds w holds → IsKeptWord to ((p, HoldKind.Read) ∷ holds)
-    by_counts (inl read) =
-        record {
-          counts = inl (record { counts = omega (arith, read.counts, more); unwritten = omega (arith, read.unwritten); fits = omega (arith, more, fits) });
-          each = (none, law.each);
-        }
-    by_counts (inr written) = absurd (omega (arith, written.is_full, fits))
+one_reader_more p w to holds h1 h2 h3 h4 = grind (arith, nat_tests, eqb-true, eqb-false)
 
 -- The writer enters.
 
@@ -49,10 +39,7 @@ held_by_none [] reads writes = refl
 held_by_none (hold ∷ holds) reads writes = absurd (omega (arith, both_kinds (hold ∷ holds), reads, writes))
 
 pub free_exactly : (w : ℕ) (holds : List Hold) → CountsHolds w holds → (w ≡ 0) ↔ (holds ≡ [])
-free_exactly w holds (inl read) =
-    (λ free. held_by_none holds (sym read.counts ∙ free) read.unwritten, λ none. read.counts ∙ ap reads_in none)
-free_exactly w holds (inr written) =
-    (λ free. absurd (omega (arith, written.is_full, free)), λ none. let no : ◌≡◌ {A = List Hold} ((written.writer, HoldKind.Write) ∷ []) [] = sym written.alone ∙ none in absurd cc)
+free_exactly w holds h1 = grind (arith, nat_tests, eqb-true, eqb-false, held_by_none)
 
 the_writer : (p w to : ℕ) (holds : List Hold) → IsKeptWord w holds → w ≡ 0 → to ≡ 2 ^ 64 - 1 → IsKeptWord to ((p, HoldKind.Write) ∷ holds)
 the_writer p w to holds law free full =
@@ -63,51 +50,19 @@ the_writer p w to holds law free full =
 -- A reader leaves.
 
 one_reader_less : (p w : ℕ) (holds : List Hold) → IsKeptWord w holds → hold_among p holds ≡ Some HoldKind.Read → IsKeptWord ((w + (2 ^ 64 - 1)) % 2 ^ 64) (without p holds)
-one_reader_less p w holds law had = by_counts law.counts
-  where
-    reads : reads_in holds ≡ 1 + reads_in (without p holds)
-    reads = without_counts HoldKind.Read HoldKind.Read p holds law.each had
-
-    writes : writes_in holds ≡ 0 + writes_in (without p holds)
-    writes = without_counts HoldKind.Write HoldKind.Read p holds law.each had
-
-    by_counts : CountsHolds w holds → IsKeptWord ((w + (2 ^ 64 - 1)) % 2 ^ 64) (without p holds)
-    by_counts (inl read) =
-        record {
-          counts = inl (record { counts = omega (arith, read.counts, read.fits, reads); unwritten = omega (arith, read.unwritten, writes); fits = omega (arith, read.counts, read.fits, reads) });
-          each = without_one_each p holds law.each;
-        }
-    by_counts (inr written) =
-        let one : reads_in holds ≡ 0 = ap reads_in written.alone in
-        absurd (omega (arith, one, reads))
+one_reader_less p w holds h1 h2 = grind (arith, nat_tests, eqb-true, eqb-false, without_counts, without_one_each)
 
 -- The writer leaves.
 
 no_writer : (p w put : ℕ) (holds : List Hold) → IsKeptWord w holds → hold_among p holds ≡ Some HoldKind.Write → put ≡ 0 → IsKeptWord put (without p holds)
-no_writer p w put holds law had free = by_counts law.counts
-  where
-    by_counts : CountsHolds w holds → IsKeptWord put (without p holds)
-    by_counts (inl read) = absurd (omega (arith, read.unwritten, counted_of HoldKind.Write p holds had))
-    by_counts (inr written) =
-        let mine : is_some (hold_among p ((written.writer, HoldKind.Write) ∷ [])) ≡ true = subst (λ (hs : List Hold). is_some (hold_among p hs) ≡ true) written.alone (ap is_some had) in
-        let none : without p holds ≡ [] = ap (without p) written.alone ∙ without_only p written.writer mine in
-        subst (λ (hs : List Hold). IsKeptWord put hs) (sym none) (subst (λ v. IsKeptWord v []) (sym free) nobody)
+no_writer p w put holds h1 h2 h3 = grind (arith, nat_tests, eqb-true, eqb-false, counted_of, is_some, without_only, nobody)
 
 -- A step keeps it.
 
 entered :
     {T P : Type 0} (t : Table T P) (p : ℕ) (c : PendingCall T) (w from to : ℕ) (holds : List Hold) → IsKeptWord w holds → IsReaderIntent {T = T} (t.grant c.call) (hold_among p holds) (Intent.Exchange Word.State from to) →
     (b : Bool) → (w == from) ≡ b → IsKeptWord (cond b to w) (holds_after t p (Some c) (Act.Exchange Word.State from to w b) holds)
-entered t p c w from to holds law is false e = law
-entered t p c w from to holds law is true e = by_kind is.1
-  where
-    found : w ≡ from
-    found = eqb-true w from e
-
-    by_kind : ((to ≡ from + 1) × (from < 2 ^ 64 - 2) × (t.grant c.call from to ≡ Some HoldKind.Read)) ⊎ ((from ≡ 0) × (to ≡ 2 ^ 64 - 1) × (t.grant c.call from to ≡ Some HoldKind.Write)) →
-        IsKeptWord to (holds_after t p (Some c) (Act.Exchange Word.State from to w true) holds)
-    by_kind (inl reads) = rw reads.2 (one_reader_more p w to holds law is.0 (omega (arith, found, reads.0)) (omega (arith, found, reads.1)))
-    by_kind (inr writes) = rw writes.2 (the_writer p w to holds law (omega (arith, found, writes.0)) writes.1)
+entered t p c w from to holds h1 h2 b h3 = grind (arith, nat_tests, eqb-true, eqb-false, holds_after, one_reader_more, the_writer)
 
 step_keeps :
     {T P : Type 0} (t : Table T P) (p : ℕ) (c : PendingCall T) (memory : Word → ℕ) (holds : List Hold) (intent : Intent T) →
@@ -139,10 +94,8 @@ reader_lock_exclusive w holds (inr written) = subst IsExclusive (sym written.alo
 
 -- where the word is not 0 some hold stands
 pub held_at : (w : ℕ) (holds : List Hold) → CountsHolds w holds → w ≢ 0 → 0 < length holds
-held_at w holds (inl read) other = omega (arith, read.counts, both_kinds holds, other)
-held_at w holds (inr written) other = rw written.alone (omega arith)
+held_at w holds h1 h2 = grind (arith, nat_tests, eqb-true, eqb-false, both_kinds)
 
 -- where no reader may enter a write hold stands, or as many read holds as there may be
 pub shut_at : (w : ℕ) (holds : List Hold) → CountsHolds w holds → 2 ^ 64 - 2 ≤ w → (0 < writes_in holds) ⊎ (reads_in holds ≡ 2 ^ 64 - 2)
-shut_at w holds (inl read) full = inr (omega (arith, read.counts, read.fits, full))
-shut_at w holds (inr written) full = inl (rw written.alone (omega arith))
+shut_at w holds h1 h2 = grind (arith, nat_tests, eqb-true, eqb-false)

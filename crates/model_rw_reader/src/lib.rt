@@ -54,7 +54,7 @@ pub fn writer_enters(word: u64) -> Option<u64>
 }
 
 /// Where a party is in a call at a reader-preferring lock; each place is named for its next step.
-#[derive(Clone, Copy)]
+#[derive(Clone, Copy, PartialEq, Eq)]
 pub enum RwReaderPlace {
     /// The load of `TryReadLock`.
     TryReadLook,

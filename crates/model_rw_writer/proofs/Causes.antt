@@ -1,9 +1,9 @@
 -- Each refusal of a writer-preferring lock has its cause, and a `TryWriteLock` is granted exactly where it may be.
-use Rattle.model_rw_writer.specs.Names.{MatchBool, MatchOption, not, Word, Call, Act, Answer, Event, Then, HoldKind, Patience, After, Arithmetic, carried_out, value_told, outcome_of, PendingCall, call_of, call_after, Hold, holds_of, hold_of, word_in, event, is_failure, reads_in, Move, step_at, IsPast, is_sight, is_beginning, keeps_asking, HasAborted, OtherWroteSinceSight, AtLastSight, is_refusal, IsLocked}
+use Rattle.model_rw_writer.specs.Names.{MatchBool, MatchOption, not, Word, Call, Act, Answer, Event, Then, HoldKind, Patience, After, Arithmetic, carried_out, value_told, outcome_of, PendingCall, call_of, call_after, Hold, holds_of, hold_of, word_in, event, is_failure, Move, step_at, IsPast, is_sight, is_beginning, keeps_asking, HasAborted, OtherWroteSinceSight, AtLastSight, is_refusal, IsLocked}
 use Rattle.model_rw_writer.proofs.Names.{◌≡◌, ◌≢◌, ℕ, ◌-◌, ◌^◌, ◌<◌, ◌≤◌, ◌==◌, refl, sym, ◌∙◌, ap, subst, Bool, true, false, cond, ◌&&◌, length, List, [], ◌∷◌, Option, Some, None, ◌⊎◌, inl, inr, ◌↔◌, arith, eqb-true, eqb-false, false≢true, nat_tests, eqb_same, both_kinds, by_move, tells_memory, kept_or_written, longer, at_last_sight, waits_first, waits_as}
 use Rattle.model_rw_writer.specs.declared.Leaver.{Leaver}
 use Rattle.model_rw_writer.specs.declared.RwWriterPlace.{RwWriterPlace}
-use Rattle.model_rw_writer.specs.Table.{lets_writer_in, is_marked, is_blocked, try_read_look, read_look, spins, marks_or_spins, unmarks_or_leaves, write_refused, write_look, last_look, released, woken_one, woken_all, rw_writer_table}
+use Rattle.model_rw_writer.specs.Table.{is_marked, is_blocked, try_read_look, read_look, spins, marks_or_spins, unmarks_or_leaves, write_refused, write_look, last_look, released, woken_one, woken_all, rw_writer_table}
 use Rattle.model_rw_writer.specs.Marks.{is_marked_after}
 use Rattle.model_rw_writer.specs.Law.{CountsHolds, HasMissedAfterAbort, RwWriterCause, IsExactGrant, rw_writer_waiting, KeepsRwWriter}
 use Rattle.model_rw_writer.proofs.WordLaws.{held_by_none, writer_lock_exclusive}
@@ -21,14 +21,10 @@ use Rattle.model_rw_writer.proofs.Laws.{event_keeps, writer_lock_word, setter_is
 -- What the word says of the holds and the mark.
 
 held_at : (w : ℕ) (holds : List Hold) (marked : Bool) → CountsHolds w holds marked → 2 ≤ w → 0 < length holds
-held_at w holds true (inl read) above = omega (arith, read.counts, both_kinds holds, above)
-held_at w holds false (inl read) above = omega (arith, read.counts, both_kinds holds, above)
-held_at w holds marked (inr written) above = rw written.alone (omega arith)
+held_at w holds marked h1 h2 = grind (arith, nat_tests, eqb-true, eqb-false, both_kinds)
 
 taken_at : (w : ℕ) (holds : List Hold) (marked : Bool) → CountsHolds w holds marked → w ≢ 0 → (0 < length holds) ⊎ (marked ≡ true)
-taken_at w holds true (inl read) other = inr refl
-taken_at w holds false (inl read) other = inl (omega (arith, read.counts, both_kinds holds, other))
-taken_at w holds marked (inr written) other = inl (rw written.alone (omega arith))
+taken_at w holds marked h1 h2 = grind (arith, nat_tests, eqb-true, eqb-false, both_kinds)
 
 -- A failed exchange after a look: another party has written.
 
@@ -200,20 +196,12 @@ leaves_cause {T} party past c act w called aborted sight why law = by_test (is_m
 write_refused_cause :
     {T : Type 0} (party : ℕ) (past : List (Event T)) (c : PendingCall T) (patience : Patience) (act : Act T) (w : ℕ) → call_of party past ≡ Some c → Asks patience c.own → is_sight Word.State act ≡ true → Why party past act w →
     CountsHolds w (holds_of rw_writer_table past) (is_marked_after past) → HasCauseAfter party past Call.WriteLock act (write_refused patience w)
-write_refused_cause {T} party past c patience act w called asks sight why law = by_test patience.keep refl
-  where
-    by_test : (b : Bool) → patience.keep ≡ b → HasCauseAfter {T = T} party past Call.WriteLock act (cond b (marks_or_spins patience w) (unmarks_or_leaves w))
-    by_test true is = no_mark_refuses party past act patience w
-    by_test false is = leaves_cause party past c act w called (asks ∙ is) sight why law
+write_refused_cause party past c patience act w h1 h2 h3 h4 h5 = grind (arith, nat_tests, eqb-true, eqb-false, no_mark_refuses, leaves_cause)
 
 write_look_cause :
     {T : Type 0} (party : ℕ) (past : List (Event T)) (c : PendingCall T) (patience : Patience) (act : Act T) (w : ℕ) → call_of party past ≡ Some c → Asks patience c.own → is_sight Word.State act ≡ true →
     CountsHolds w (holds_of rw_writer_table past) (is_marked_after past) → HasCauseAfter party past Call.WriteLock act (write_look patience w)
-write_look_cause {T} party past c patience act w called asks sight law = by_test (lets_writer_in w) refl
-  where
-    by_test : (b : Bool) → lets_writer_in w ≡ b → HasCauseAfter {T = T} party past Call.WriteLock act (cond b (After.At (RwWriterPlace.Enter w patience)) (write_refused patience w))
-    by_test true is = tt
-    by_test false is = write_refused_cause party past c patience act w called asks sight (inl (held_above w is)) law
+write_look_cause party past c patience act w h1 h2 h3 h4 = grind (arith, nat_tests, eqb-true, eqb-false, write_refused_cause, held_above)
 
 last_look_cause :
     {T : Type 0} (party count : ℕ) (past : List (Event T)) (c : PendingCall T) (patience : Patience) (w : ℕ) → call_of party past ≡ Some c → Asks patience c.own →
@@ -319,11 +307,7 @@ event_cause {T} z parties past e run =
 -- A `TryWriteLock` is granted exactly where nobody holds the lock and the mark is not set.
 
 free_exactly : (w : ℕ) (holds : List Hold) (marked : Bool) → CountsHolds w holds marked → (w ≡ 0) ↔ ((holds ≡ []) × (marked ≡ false))
-free_exactly w holds true (inl read) = (λ free. absurd (omega (arith, read.counts, free)), λ none. absurd cc)
-free_exactly w holds false (inl read) =
-    (λ free. (held_by_none holds (omega (arith, read.counts, free)) read.unwritten, refl), λ none. omega (arith, read.counts, ap reads_in none.0))
-free_exactly w holds marked (inr written) =
-    (λ free. absurd (omega (arith, written.is_full, free)), λ none. let no : ◌≡◌ {A = List Hold} ((written.writer, HoldKind.Write) ∷ []) [] = sym written.alone ∙ none.0 in absurd cc)
+free_exactly w holds marked h1 = grind (arith, nat_tests, eqb-true, eqb-false, held_by_none)
 
 -- the step of a `TryWriteLock` that sees the word succeeds exactly there
 abbrev IsExactAfter : {T : Type 0} → List (Event T) → Call T → Act T → After T RwWriterPlace → Type 0
@@ -348,21 +332,7 @@ step_exact :
     CountsHolds (word_in rw_writer_table past Word.State) (holds_of rw_writer_table past) (is_marked_after past) →
     IsExactAfter past c.call (step_at rw_writer_table place hold (word_in rw_writer_table past)).act
     (rw_writer_table.after place (value_told {T = T} (carried_out (rw_writer_table.intent place hold) (word_in rw_writer_table past))))
-step_exact past c RwWriterPlace.TryReadLook hold at law = tries_not _ c.call Call.TryReadLock at.0 (λ same. absurd cc)
-step_exact past c (RwWriterPlace.TryRead seen to) hold at law = tries_not _ c.call Call.TryReadLock at.0 (λ same. absurd cc)
-step_exact past c (RwWriterPlace.ReadLook patience) hold at law = tries_not _ c.call Call.ReadLock at.0 (λ same. absurd cc)
-step_exact past c (RwWriterPlace.Read seen to patience) hold at law = tries_not _ c.call Call.ReadLock at.0 (λ same. absurd cc)
-step_exact past c RwWriterPlace.TryWrite hold at law = let w = word_in rw_writer_table past Word.State in try_write_exact past c.call w (w == 0) refl law
-step_exact past c (RwWriterPlace.WriteLook patience) hold at law = tries_not _ c.call Call.WriteLock at.0 (λ same. absurd cc)
-step_exact past c (RwWriterPlace.Enter seen patience) hold at law = tries_not _ c.call Call.WriteLock at.0 (λ same. absurd cc)
-step_exact past c (RwWriterPlace.Mark seen to patience) hold at law = tries_not _ c.call Call.WriteLock at.0 (λ same. absurd cc)
-step_exact past c (RwWriterPlace.Unmark seen to) hold at law = tries_not _ c.call Call.WriteLock at.0 (λ same. absurd cc)
-step_exact past c (RwWriterPlace.LoadCounter patience) hold at law = tries_not _ c.call Call.WriteLock at.0 (λ same. absurd cc)
-step_exact past c (RwWriterPlace.LastLook count patience) hold at law = tries_not _ c.call Call.WriteLock at.0 (λ same. absurd cc)
-step_exact past c RwWriterPlace.Release hold at law = tries_not _ c.call Call.Unlock at.0 (λ same. absurd cc)
-step_exact past c (RwWriterPlace.Count who) hold at law = leaver_tries_not _ c who at
-step_exact past c (RwWriterPlace.WakeOne who) hold at law = leaver_tries_not _ c who at
-step_exact past c (RwWriterPlace.WakeAll who) hold at law = leaver_tries_not _ c who at
+step_exact past c place hold h1 h2 = grind (arith, nat_tests, eqb-true, eqb-false, tries_not, try_write_exact, leaver_tries_not)
 
 unseen : {T : Type 0} (past : List (Event T)) (pending : Option (PendingCall T)) (act : Act T) → is_sight Word.State act ≡ false → MatchOption pending (Unit {0}) (λ c. IsExactAfter past c.call act (After.At RwWriterPlace.Release))
 unseen past pending act h1 = grind (arith, nat_tests, eqb-true, eqb-false)

@@ -60,8 +60,7 @@ stepped_owes :
     {T : Type 0} (r : ℕ) (c : PendingCall T) (place : RwWriterPlace) (hold : Option HoldKind) (memory : Word → ℕ) → stage_of rw_writer_table c ≡ Some place →
     LeadsToCount (step_at {T = T} rw_writer_table place hold memory).act (rw_writer_table.after place (value_told {T = T} (carried_out (rw_writer_table.intent place hold) memory))) →
     OwesAt (call_after (step_at rw_writer_table place hold memory).outcome (event r (step_at rw_writer_table place hold memory).act (step_at rw_writer_table place hold memory).outcome) (Some c))
-stepped_owes {T} r c place hold memory stage led =
-    stepped_at (λ (next : RwWriterPlace) (own : List (Event T)). IsCounting next) r c place (RwWriterPlace.Count led.who) hold memory stage (ap place_after led.counts) (λ e is. tt)
+stepped_owes r c place hold memory h1 h2 = grind (arith, nat_tests, eqb-true, eqb-false, stepped_at)
 
 -- at the counter's place the step is the add
 count_adds : (T : Type 0) (place : RwWriterPlace) (hold : Option HoldKind) (memory : Word → ℕ) → IsCounting place → adds_count (step_at {T = T} rw_writer_table place hold memory).act ≡ true

@@ -1,6 +1,6 @@
 -- What each step of a writer-preferring lock does to its word, its holds and its mark.
 use Rattle.model_rw_writer.specs.Names.{Word, Call, Act, HoldKind, Intent, carried_out, Hold, PendingCall, hold_among, word_after, without, reads_in, writes_in, IsExclusive}
-use Rattle.model_rw_writer.proofs.Names.{eqb-false, nat_tests, ◌≡◌, ◌≢◌, ℕ, ◌+◌, ◌*◌, ◌-◌, ◌%◌, ◌^◌, ◌<◌, ◌≤◌, ◌==◌, refl, sym, ◌∙◌, ap, subst, Bool, true, false, cond, is_some, List, [], ◌∷◌, Option, Some, None, ◌⊎◌, inl, inr, arith, eqb-true, eqb_other, IsOneEach, without_one_each, without_counts, counted_of, both_kinds, unwritten_exclusive, written_exclusive, holds_after, without_only}
+use Rattle.model_rw_writer.proofs.Names.{eqb-false, nat_tests, ◌≡◌, ◌≢◌, ℕ, ◌+◌, ◌*◌, ◌-◌, ◌%◌, ◌^◌, ◌<◌, ◌≤◌, ◌==◌, refl, sym, ◌∙◌, subst, Bool, true, false, cond, is_some, List, [], ◌∷◌, Option, Some, None, ◌⊎◌, inl, inr, arith, eqb-true, eqb_other, IsOneEach, without_one_each, without_counts, counted_of, both_kinds, unwritten_exclusive, written_exclusive, holds_after, without_only}
 use Rattle.model_rw_writer.specs.Table.{is_mark, rw_writer_grant, rw_writer_table}
 use Rattle.model_rw_writer.specs.Marks.{is_writing, setter_after}
 use Rattle.model_rw_writer.specs.Law.{CountsHolds}
@@ -70,19 +70,7 @@ held_by_none [] reads writes = refl
 held_by_none (hold ∷ holds) reads writes = absurd (omega (arith, both_kinds (hold ∷ holds), reads, writes))
 
 writer_in : (p w to : ℕ) (holds : List Hold) (marked : Bool) → IsKeptWord w holds marked → w < 2 → to ≡ 2 ^ 64 - 1 → Keeps holds marked to ((p, HoldKind.Write) ∷ holds) false
-writer_in p w to holds marked law unheld full = by_counts law.counts
-  where
-    only : (none : holds ≡ []) → Keeps holds marked to ((p, HoldKind.Write) ∷ holds) false
-    only none =
-        let alone : ◌≡◌ {A = List Hold} ((p, HoldKind.Write) ∷ holds) ((p, HoldKind.Write) ∷ []) = ap (λ (hs : List Hold). (p, HoldKind.Write) ∷ hs) none in
-        record {
-          kept = record { counts = inr (record { is_full = full; writer = p; alone = alone; unmarked = refl }); each = subst IsOneEach (sym alone) (refl, tt) };
-          keeps_out = λ gain. absurd (omega (arith, gain));
-        }
-
-    by_counts : CountsHolds w holds marked → Keeps holds marked to ((p, HoldKind.Write) ∷ holds) false
-    by_counts (inl read) = only (held_by_none holds (omega (arith, read.counts, unheld)) read.unwritten)
-    by_counts (inr written) = absurd (omega (arith, written.is_full, unheld))
+writer_in p w to holds marked h1 h2 h3 = grind (arith, nat_tests, eqb-true, eqb-false, held_by_none)
 
 mark_set : (w to : ℕ) (holds : List Hold) (marked : Bool) → IsKeptWord w holds marked → w % 2 ≡ 0 → to ≡ w + 1 → Keeps holds marked to holds true
 mark_set w to holds marked h1 h2 h3 = grind (arith, nat_tests, eqb-true, eqb-false)
@@ -91,51 +79,10 @@ mark_gone : (w to : ℕ) (holds : List Hold) (marked : Bool) → IsKeptWord w ho
 mark_gone w to holds marked h1 h2 h3 h4 = grind (arith, nat_tests, eqb-true, eqb-false)
 
 reader_out : (p w : ℕ) (holds : List Hold) (marked : Bool) → IsKeptWord w holds marked → hold_among p holds ≡ Some HoldKind.Read → Keeps holds marked ((w + (2 ^ 64 - 2)) % 2 ^ 64) (without p holds) marked
-reader_out p w holds marked law had = by_counts marked law.counts
-  where
-    reads : reads_in holds ≡ 1 + reads_in (without p holds)
-    reads = without_counts HoldKind.Read HoldKind.Read p holds law.each had
-
-    writes : writes_in holds ≡ 0 + writes_in (without p holds)
-    writes = without_counts HoldKind.Write HoldKind.Read p holds law.each had
-
-    fewer : (m : Bool) (mark : ℕ) → mark ≤ 1 → w ≡ 2 * reads_in holds + mark → reads_in holds < 2 ^ 63 - 1 → (w + (2 ^ 64 - 2)) % 2 ^ 64 ≡ 2 * reads_in (without p holds) + mark
-    fewer m mark small counts fits = omega (arith, small, counts, fits, reads)
-
-    by_counts : (m : Bool) → CountsHolds w holds m → Keeps holds m ((w + (2 ^ 64 - 2)) % 2 ^ 64) (without p holds) m
-    by_counts true (inl read) =
-        record {
-          kept = record {
-            counts = inl (record { counts = fewer true 1 (omega arith) read.counts read.fits; unwritten = omega (arith, read.unwritten, writes); fits = omega (arith, read.fits, reads) });
-            each = without_one_each p holds law.each;
-          };
-          keeps_out = λ gain. absurd (omega (arith, gain, reads));
-        }
-    by_counts false (inl read) =
-        record {
-          kept = record {
-            counts = inl (record { counts = fewer false 0 (omega arith) read.counts read.fits; unwritten = omega (arith, read.unwritten, writes); fits = omega (arith, read.fits, reads) });
-            each = without_one_each p holds law.each;
-          };
-          keeps_out = λ gain. absurd (omega (arith, gain, reads));
-        }
-    by_counts m (inr written) =
-        let none : reads_in holds ≡ 0 = ap reads_in written.alone in
-        absurd (omega (arith, none, reads))
+reader_out p w holds marked h1 h2 = grind (arith, nat_tests, eqb-true, eqb-false, without_counts, without_one_each)
 
 writer_out : (p w put : ℕ) (holds : List Hold) (marked : Bool) → IsKeptWord w holds marked → hold_among p holds ≡ Some HoldKind.Write → put ≡ 0 → Keeps holds marked put (without p holds) marked
-writer_out p w put holds marked law had free = by_counts law.counts
-  where
-    by_counts : CountsHolds w holds marked → Keeps holds marked put (without p holds) marked
-    by_counts (inl read) = absurd (omega (arith, read.unwritten, counted_of HoldKind.Write p holds had))
-    by_counts (inr written) =
-        let mine : is_some (hold_among p ((written.writer, HoldKind.Write) ∷ [])) ≡ true = subst (λ (hs : List Hold). is_some (hold_among p hs) ≡ true) written.alone (ap is_some had) in
-        let none : without p holds ≡ [] = ap (without p) written.alone ∙ without_only p written.writer mine in
-        let empty : IsKeptWord put [] marked = subst (λ v. IsKeptWord v [] marked) (sym free) (subst (λ m. IsKeptWord 0 [] m) (sym written.unmarked) nobody) in
-        record {
-          kept = subst (λ (hs : List Hold). IsKeptWord put hs marked) (sym none) empty;
-          keeps_out = λ gain. written.unmarked;
-        }
+writer_out p w put holds marked h1 h2 h3 = grind (arith, nat_tests, eqb-true, eqb-false, counted_of, is_some, without_only, nobody)
 
 -- A done exchange, by what it is.
 
@@ -149,22 +96,7 @@ exchanged :
     {T : Type 0} (p : ℕ) (c : PendingCall T) (w from to : ℕ) (holds : List Hold) (setter : Option ℕ) → IsKeptWord w holds (is_some setter) → hold_among p holds ≡ None → IsExchange c.call from to → (b : Bool) → (w == from) ≡ b →
     Keeps holds (is_some setter) (cond b to w) (holds_after {T = T} rw_writer_table p (Some c) (Act.Exchange Word.State from to w b) holds)
     (is_some (setter_after {T = T} p (Act.Exchange Word.State from to w b) (Some c) setter))
-exchanged p c w from to holds setter law free is false e = unchanged w holds (is_some setter) law
-exchanged p c w from to holds setter law free (inl is) true e =
-    let found : w ≡ from = eqb-true w from e in
-    rw (is.grants, is.reads) (reader_in p w to holds (is_some setter) law free (omega (arith, found, is.even)) (omega (arith, found, is.fits)) (omega (arith, found, is.more)))
-exchanged p c w from to holds setter law free (inr (inl is)) true e =
-    let found : w ≡ from = eqb-true w from e in
-    let other : is_mark from to ≡ false = no_mark from to (λ same. absurd (omega (arith, same, is.unheld, is.full))) in
-    rw (is.grants, is.writes, other) (writer_in p w to holds (is_some setter) law (omega (arith, found, is.unheld)) is.full)
-exchanged p c w from to holds setter law free (inr (inr (inl is))) true e =
-    let found : w ≡ from = eqb-true w from e in
-    rw (is.grants, is.writes, is_marking from to is.more) (mark_set w to holds (is_some setter) law (omega (arith, found, is.even)) (omega (arith, found, is.more)))
-exchanged p c w from to holds setter law free (inr (inr (inr is))) true e =
-    let found : w ≡ from = eqb-true w from e in
-    let other : is_mark from to ≡ false = no_mark from to (λ same. absurd (omega (arith, same, is.less))) in
-    let below : w ≢ 2 ^ 64 - 1 = λ full. is.below (sym found ∙ full) in
-    rw (is.grants, is.writes, other) (mark_gone w to holds (is_some setter) law (omega (arith, found, is.odd)) below (found ∙ is.less))
+exchanged p c w from to holds setter h1 h2 h3 b h4 = grind (arith, nat_tests, eqb-true, eqb-false, unchanged, is_some, reader_in, no_mark, writer_in, is_marking, mark_set, mark_gone)
 
 pub step_keeps :
     {T : Type 0} (p : ℕ) (c : PendingCall T) (memory : Word → ℕ) (holds : List Hold) (setter : Option ℕ) (intent : Intent T) →

@@ -1,5 +1,5 @@
 -- The mark: a waiting writer sets it, and while it is set no reader enters.
-use Rattle.model_rw_writer.specs.Names.{ℕ, ◌+◌, ◌==◌, Bool, true, false, ◌&&◌, if◌then◌else◌, List, [], ◌∷◌, Option, Some, None, is_some, Word, Call, Act, Event, PendingCall, call_of}
+use Rattle.model_rw_writer.specs.Names.{ℕ, ◌+◌, ◌==◌, Bool, true, false, ◌&&◌, List, [], ◌∷◌, Option, Some, None, is_some, Word, Call, Act, Event, PendingCall, call_of, if◌then◌else◌}
 
 abbrev pub is_writing : {T : Type 0} → Call T → Bool
 is_writing Call.WriteLock = true

@@ -86,7 +86,7 @@ pub fn unmarks(word: u64) -> Option<u64>
 }
 
 /// Who leaves the lock and wakes those that wait.
-#[derive(Clone, Copy)]
+#[derive(Clone, Copy, PartialEq, Eq)]
 pub enum Leaver {
     /// The last reader, while the mark is set.
     Reader,
@@ -97,7 +97,7 @@ pub enum Leaver {
 }
 
 /// Where a party is in a call at a writer-preferring lock; each place is named for its next step.
-#[derive(Clone, Copy)]
+#[derive(Clone, Copy, PartialEq, Eq)]
 pub enum RwWriterPlace {
     /// The load of `TryReadLock`.
     TryReadLook,

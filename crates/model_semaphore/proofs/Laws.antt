@@ -1,21 +1,14 @@
 -- A semaphore keeps its law at every prefix of every run.
-use Rattle.model_semaphore.specs.Names.{IfSome, MatchBool, MatchOption, not, is_some, nat_lt, ◌&&◌, Wake, Patience, WaitAction, Word, Call, Act, Answer, Event, Then, After, carried_out, value_told, outcome_of, place_after, within, same_word, PendingCall, call_of, hold_of, word_in, word_after, latest_outcome, event, Move, step_at, answer_fault, is_step, sight_of, is_sight, keeps_asking, HasAborted, last_of, WhereAsked, is_apart, Lacks, is_refusal}
-use Rattle.model_semaphore.proofs.Names.{◌≡◌, ℕ, ◌+◌, ◌-◌, ◌≤◌, ◌<◌, ◌%◌, ◌^◌, ◌==◌, refl, sym, ◌∙◌, ap, subst, Bool, true, false, cond, List, [], ◌∷◌, Option, Some, None, inl, inr, arith, eqb-true, eqb-false, begun_spun, HasSpun}
-use Rattle.std.proofs.lemmas.Bool.Decides.{nat_tests}
-use Rattle.model_events.specs.declared.hold.HoldKind.{HoldKind}
-use Rattle.model_events.specs.Arithmetic.{Arithmetic}
-use Rattle.model_events.specs.Runs.{IsPast}
-use Rattle.model_events.proofs.NextStep.{Descends, ends_within}
-use Rattle.model_events.proofs.Holds.{some_same, eqb_same, no_holds, exclusive_unheld}
-use Rattle.model_events.proofs.Steps.{by_move, tells_memory}
-use Rattle.model_events.proofs.Parties.{IsKept, at_place}
-use Rattle.model_events.proofs.Asks.{waits_first, waits_as, spins_no_more}
+use Rattle.model_semaphore.specs.Names.{IfSome, MatchBool, MatchOption, is_some, ◌&&◌, Wake, WaitAction, Word, Call, Act, Event, Then, place_after, within, same_word, PendingCall, call_of, hold_of, word_in, word_after, event, Move, step_at, is_step, sight_of, keeps_asking, last_of, WhereAsked, is_apart, Lacks, is_refusal}
+use Rattle.model_semaphore.proofs.Names.{◌≡◌, ℕ, ◌+◌, ◌-◌, ◌≤◌, ◌<◌, ◌%◌, ◌^◌, ◌==◌, refl, ◌∙◌, true, false, List, [], ◌∷◌, Option, Some, None, inl, arith, eqb-true, eqb-false, nat_tests, Descends, ends_within, no_holds, exclusive_unheld, by_move, tells_memory, IsKept, at_place, waits_first, waits_as, spins_no_more}
+use Rattle.model_events.specs.Exports.{Arithmetic, IsPast}
+use Rattle.model_events.specs.declared.{hold.HoldKind.HoldKind}
 use Rattle.model_semaphore.specs.declared.SemaphorePlace.{SemaphorePlace}
 use Rattle.model_semaphore.specs.Table.{semaphore_table, semaphore_begins, semaphore_intent, semaphore_after, semaphore_answered}
 use Rattle.model_semaphore.specs.Permits.{permits_given, permits_taken, is_take, number_answered}
-use Rattle.model_semaphore.specs.Law.{permits_posted, semaphore_gives, semaphore_value, SemaphoreCause, is_empty_look, wait_spins, permits_seen, look_of, refused_as, IsLeftBy, IsPostStep, SemaphoreStep, KeepsSemaphore, semaphore_most, semaphore_waiting}
+use Rattle.model_semaphore.specs.Law.{semaphore_gives, semaphore_value, SemaphoreCause, wait_spins, permits_seen, SemaphoreStep, KeepsSemaphore, semaphore_most, semaphore_waiting}
 use Rattle.model_semaphore.proofs.Permits.{Effect, Tallies, tallies_first, tallies_after, lowered}
-use Rattle.model_semaphore.proofs.WaitSteps.{one_less, AtWait, WaitLeads, wait_leads, wait_goes_on, wait_effect, wait_answered, wait_chosen}
+use Rattle.model_semaphore.proofs.WaitSteps.{AtWait}
 
 -- What is kept of a call at its place.
 
@@ -31,22 +24,6 @@ AtSemaphore (SemaphorePlace.Take seen to patience) c hold = (c.call ≡ Call.Wai
 -- Where a call begins.
 
 -- Where a step leads.
-
--- how `TryWait` goes on after a look, by whether it saw 0
-abbrev try_after : {T : Type 0} → ℕ → Bool → After T SemaphorePlace
-try_after v gone = cond gone (After.Ends Answer.Interrupted) (After.At (SemaphorePlace.TryTake v (v - 1)))
-
--- a call that waits for a permit
-abbrev SeenAt : SemaphorePlace → ℕ → Type 0
-SeenAt (SemaphorePlace.Look patience) v = v ≡ 0
-SeenAt (SemaphorePlace.Take seen to patience) v = v ≡ seen
-SeenAt other v = Unit {0}
-
--- after a look of a `Wait`, by three tests
-abbrev looked : {T : Type 0} → Patience → ℕ → Bool → Bool → Bool → After T SemaphorePlace
-looked patience v gone keep left =
-    cond gone (within SemaphorePlace.Look (cond keep (cond left (After.At (record { spins = patience.spins + 1; keep = patience.keep })) (After.Waits patience 0)) (After.Ends Answer.Interrupted)))
-    (After.At (SemaphorePlace.Take v (v - 1) patience))
 
 -- after an exchange of a `Wait`, by whether it was done
 

@@ -31,7 +31,7 @@ pub fn taken(word: u64) -> Option<u64>
 }
 
 /// Where a party is in a call at a semaphore; each place is named for its next step.
-#[derive(Clone, Copy)]
+#[derive(Clone, Copy, PartialEq, Eq)]
 pub enum SemaphorePlace {
     /// The load of `Value`.
     Value,

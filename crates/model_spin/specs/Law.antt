@@ -1,17 +1,7 @@
 -- What a spin lock keeps at every prefix of every run: one holder, who has the lock after each answer, and that a call which waits only spins.
-use Rattle.std.specs.Prelude.{◌≡◌, ◌≤◌, ℕ, ◌==◌, Bool, true, false, if◌then◌else◌, List, [], ◌∷◌, Option, Some, None, length, MatchBool, MatchOption}
-use Rattle.model_events.specs.declared.event.Word.{Word}
-use Rattle.model_events.specs.declared.event.Act.{Act}
-use Rattle.model_events.specs.declared.event.Answer.{Answer}
-use Rattle.model_events.specs.declared.event.Call.{Call}
-use Rattle.model_events.specs.declared.event.Then.{Then}
-use Rattle.model_events.specs.declared.event.Event.{Event}
-use Rattle.model_events.specs.declared.hold.HoldKind.{HoldKind}
-use Rattle.model_events.specs.Past.{Hold, call_of, holds_of, word_in}
-use Rattle.model_events.specs.Moves.{is_step}
-use Rattle.model_events.specs.Sights.{AtLastSight}
-use Rattle.model_events.specs.NextStep.{StepsAs, EndsWithin}
-use Rattle.model_events.specs.Laws.{IsLocked, Keeps}
+use Rattle.std.specs.Prelude.{◌≡◌, ◌≤◌, ℕ, ◌==◌, Bool, true, false, List, [], ◌∷◌, Option, Some, None, length, MatchBool, MatchOption, if◌then◌else◌}
+use Rattle.model_events.specs.Exports.{Hold, call_of, holds_of, word_in, is_step, AtLastSight, StepsAs, EndsWithin, IsLocked, Keeps}
+use Rattle.model_events.specs.declared.{event.Act.Act, event.Answer.Answer, event.Call.Call, event.Event.Event, event.Then.Then, event.Word.Word, hold.HoldKind.HoldKind}
 use Rattle.model_spin.specs.Table.{spin_table}
 
 -- `TryLock`: a hold stood at its last sight, which is its swap. No other call is refused.

@@ -1,12 +1,7 @@
 -- The calls of a spin lock, step for step.
-use Rattle.std.specs.Prelude.{ℕ, Bool, true, false, ◌==◌, if◌then◌else◌, Option, Some, None}
-use Rattle.model_events.specs.declared.event.Word.{Word}
-use Rattle.model_events.specs.declared.event.Call.{Call}
-use Rattle.model_events.specs.declared.event.Answer.{Answer}
-use Rattle.model_events.specs.declared.hold.HoldKind.{HoldKind}
-use Rattle.model_events.specs.declared.row.Intent.{Intent}
-use Rattle.model_events.specs.declared.row.After.{After}
-use Rattle.model_events.specs.Tables.{Table}
+use Rattle.std.specs.Prelude.{ℕ, Bool, true, false, ◌==◌, Option, Some, None, if◌then◌else◌}
+use Rattle.model_events.specs.Exports.{Table}
+use Rattle.model_events.specs.declared.{event.Answer.Answer, event.Call.Call, event.Word.Word, hold.HoldKind.HoldKind, row.After.After, row.Intent.Intent}
 use Rattle.model_spin.specs.declared.SpinPlace.{SpinPlace}
 
 -- `Lock` and `BlockingLock` are one

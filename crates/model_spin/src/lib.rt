@@ -14,7 +14,7 @@ use model_events::hold::HoldKind;
 use model_events::row::{After, Intent};
 
 /// Where a party is in a call at a spin lock; each place is named for its next step.
-#[derive(Clone, Copy)]
+#[derive(Clone, Copy, PartialEq, Eq)]
 pub enum SpinPlace {
     /// The one swap of `TryLock`.
     TryLock,

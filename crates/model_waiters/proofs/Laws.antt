@@ -3,20 +3,9 @@ use Rattle.std.proofs.Common.{◌≡◌, ℕ, ◌+◌, ◌==◌, ◌≤◌, ◌<
 use Rattle.std.specs.Prelude.{MatchBool}
 use Rattle.std.proofs.lemmas.Bool.{eqb-true, eqb-false}
 use Rattle.std.proofs.lemmas.Bool.Decides.{nat_tests}
-use Rattle.model_events.specs.declared.WaitAction.{WaitAction}
-use Rattle.model_events.specs.declared.event.Input.{Input}
-use Rattle.model_events.specs.declared.event.Then.{Then}
-use Rattle.model_events.specs.declared.hold.HoldKind.{HoldKind}
-use Rattle.model_events.specs.Arithmetic.{Arithmetic}
-use Rattle.model_events.specs.Laws.{is_refusal}
-use Rattle.model_events.specs.Moves.{Move, step_at, fault_at}
-use Rattle.model_events.specs.Past.{call_after, hold_of, word_after, event}
-use Rattle.model_events.specs.Rows.{place_after}
-use Rattle.model_events.specs.Runs.{IsPast}
-use Rattle.model_events.proofs.Holds.{no_holds, exclusive_unheld}
-use Rattle.model_events.proofs.NextStep.{steps_as, Descends, ends_within}
-use Rattle.model_events.proofs.Parties.{IsKept, at_place, fault_at_none}
-use Rattle.model_events.proofs.Steps.{by_move, tells_memory}
+use Rattle.model_events.specs.Exports.{Arithmetic, is_refusal, Move, step_at, fault_at, call_after, hold_of, word_after, event, place_after, IsPast}
+use Rattle.model_events.specs.declared.{WaitAction.WaitAction, event.Input.Input, event.Then.Then, hold.HoldKind.HoldKind}
+use Rattle.model_events.proofs.Exports.{no_holds, exclusive_unheld, steps_as, Descends, ends_within, IsKept, at_place, fault_at_none, by_move, tells_memory}
 use Rattle.model_condvar.specs.Table.{condvar_table}
 use Rattle.model_condvar.specs.Waiters.{counts_in, without, times, CountsWaiters}
 use Rattle.model_condvar.proofs.Counts.{CountEffect, none_wait, counts_after}

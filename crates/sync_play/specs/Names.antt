@@ -2,21 +2,8 @@
 pub use Rattle.std.specs.Fmt.{decimal}
 pub use Rattle.std.specs.Io.KnownBytes.{Appends, Consumes, IsAtEnd}
 pub use Rattle.std.specs.Prelude.{◌≡◌, true, Ok, is_some, ℕ, ◌+◌, ◌≤◌, false, List, [], ◌∷◌, ◌++◌, length, Option, Some, None, Err, ◌⊎◌, codes, zero, suc, ◌-◌, if◌then◌else◌, Result, ◌^◌, min, take, ◌*◌, replicate, map, string_bytes}
-pub use Rattle.model_events.specs.Arithmetic.{Arithmetic, IsValue}
-pub use Rattle.model_events.specs.Moves.{CallValues, Move, InputValues}
-pub use Rattle.model_events.specs.Past.{failures_in, call_of, hold_of}
-pub use Rattle.model_events.specs.Runs.{after}
-pub use Rattle.model_events.specs.Sights.{goes_on}
-pub use Rattle.model_events.specs.declared.event.Act.{Act}
-pub use Rattle.model_events.specs.declared.event.Answer.{Answer}
-pub use Rattle.model_events.specs.declared.event.Call.{Call}
-pub use Rattle.model_events.specs.declared.event.Event.{Event}
-pub use Rattle.model_events.specs.declared.event.Input.{Input}
-pub use Rattle.model_events.specs.declared.event.Object.{Object}
-pub use Rattle.model_events.specs.declared.event.StepFault.{StepFault}
-pub use Rattle.model_events.specs.declared.event.Then.{Then}
-pub use Rattle.model_events.specs.declared.event.Wake.{Wake}
-pub use Rattle.model_events.specs.declared.event.Word.{Word}
+pub use Rattle.model_events.specs.Exports.{Arithmetic, IsValue, CallValues, Move, InputValues, failures_in, call_of, hold_of, after, goes_on}
+pub use Rattle.model_events.specs.declared.{event.Act.Act, event.Answer.Answer, event.Call.Call, event.Event.Event, event.Input.Input, event.Object.Object, event.StepFault.StepFault, event.Then.Then, event.Wake.Wake, event.Word.Word}
 pub use Rattle.text_lines.specs.Call.{name_of, calls_of, named}
 pub use Rattle.text_lines.specs.Command.{values_written, find, verbs, with_one, with_two, call_if, task_if}
 unfoldable pub use Rattle.text_lines.specs.Command.{task_of, command_of}

@@ -1,6 +1,6 @@
 -- The headline holds at every prefix of every run, and a word that an object does not have is 0.
 use Rattle.sync_steps.specs.Names.{Event, Input, Object, Word, Arithmetic, same_word, AtEveryPrefix, mutex_table, spin_table, semaphore_table, semaphore_opening, barrier_table, rw_reader_table, rw_writer_table, condvar_table, once_table, lazy_table, atomic_table, atomic_opening}
-use Rattle.sync_steps.proofs.Names.{◌≡◌, ◌∙◌, ℕ, false, refl, sym, subst, List, [], ◌∷◌, lacked_word}
+use Rattle.sync_steps.proofs.Names.{◌≡◌, ◌∙◌, ℕ, false, sym, subst, List, [], ◌∷◌, lacked_word, arith, eqb-true, eqb-false, nat_tests}
 use Rattle.model_mutex.proofs.Laws.{keeps_mutex, mutex_lacks}
 use Rattle.model_spin.proofs.Laws.{keeps_spin, spin_lacks}
 use Rattle.model_semaphore.proofs.Laws.{keeps_semaphore, semaphore_lacks}
@@ -46,68 +46,28 @@ prefixes z o parties past (turn ∷ schedule) [] run goes = absurd goes
 -- The words that an object does not have.
 
 not_state : (T : Type 0) (o : Object T) (word : Word) → has_word o word ≡ false → same_word Word.State word ≡ false
-not_state T o Word.State lacks = absurd cc
-not_state T o Word.Counter lacks = refl
-not_state T o Word.Waiters lacks = refl
-not_state T o Word.Value lacks = refl
-not_state T o Word.Low lacks = refl
-not_state T o Word.High lacks = refl
+not_state T o word h1 = grind (arith, nat_tests, eqb-true, eqb-false)
 
 not_waiters : (T : Type 0) (word : Word) → has_word {T = T} Object.Condvar word ≡ false → same_word Word.Waiters word ≡ false
-not_waiters T Word.State lacks = refl
-not_waiters T Word.Counter lacks = refl
-not_waiters T Word.Waiters lacks = absurd cc
-not_waiters T Word.Value lacks = refl
-not_waiters T Word.Low lacks = refl
-not_waiters T Word.High lacks = refl
+not_waiters T word h1 = grind (arith, nat_tests, eqb-true, eqb-false)
 
 not_value : (T : Type 0) (word : Word) → has_word {T = T} Object.Condvar word ≡ false → same_word Word.Value word ≡ false
-not_value T Word.State lacks = refl
-not_value T Word.Counter lacks = refl
-not_value T Word.Waiters lacks = refl
-not_value T Word.Value lacks = absurd cc
-not_value T Word.Low lacks = refl
-not_value T Word.High lacks = refl
+not_value T word h1 = grind (arith, nat_tests, eqb-true, eqb-false)
 
 not_counter : (T : Type 0) (word : Word) → has_word {T = T} Object.WriterLock word ≡ false → same_word Word.Counter word ≡ false
-not_counter T Word.State lacks = refl
-not_counter T Word.Counter lacks = absurd cc
-not_counter T Word.Waiters lacks = refl
-not_counter T Word.Value lacks = refl
-not_counter T Word.Low lacks = refl
-not_counter T Word.High lacks = refl
+not_counter T word h1 = grind (arith, nat_tests, eqb-true, eqb-false)
 
 unopened : (initial : ℕ) (word : Word) → same_word Word.State word ≡ false → semaphore_opening initial word ≡ 0
-unopened initial Word.State other = absurd cc
-unopened initial Word.Counter other = refl
-unopened initial Word.Waiters other = refl
-unopened initial Word.Value other = refl
-unopened initial Word.Low other = refl
-unopened initial Word.High other = refl
+unopened initial word h1 = grind (arith, nat_tests, eqb-true, eqb-false)
 
 not_low : (T : Type 0) (v : T) (word : Word) → has_word {T = T} (Object.Atomic v) word ≡ false → same_word Word.Low word ≡ false
-not_low T v Word.State lacks = refl
-not_low T v Word.Counter lacks = refl
-not_low T v Word.Waiters lacks = refl
-not_low T v Word.Value lacks = refl
-not_low T v Word.Low lacks = absurd cc
-not_low T v Word.High lacks = refl
+not_low T v word h1 = grind (arith, nat_tests, eqb-true, eqb-false)
 
 not_high : (T : Type 0) (v : T) (word : Word) → has_word {T = T} (Object.Atomic v) word ≡ false → same_word Word.High word ≡ false
-not_high T v Word.State lacks = refl
-not_high T v Word.Counter lacks = refl
-not_high T v Word.Waiters lacks = refl
-not_high T v Word.Value lacks = refl
-not_high T v Word.Low lacks = refl
-not_high T v Word.High lacks = absurd cc
+not_high T v word h1 = grind (arith, nat_tests, eqb-true, eqb-false)
 
 unopened_data : {T : Type 0} (z : Arithmetic T) (v : T) (word : Word) → has_word {T = T} (Object.Atomic v) word ≡ false → atomic_opening z v word ≡ 0
-unopened_data z v Word.State lacks = refl
-unopened_data z v Word.Counter lacks = refl
-unopened_data z v Word.Waiters lacks = refl
-unopened_data z v Word.Value lacks = refl
-unopened_data z v Word.Low lacks = absurd cc
-unopened_data z v Word.High lacks = absurd cc
+unopened_data z v word h1 = grind (arith, nat_tests, eqb-true, eqb-false)
 
 pub absent_word : {T : Type 0} (z : Arithmetic T) (o : Object T) (parties : ℕ) (past : List (Event T)) (word : Word) → IsPast z o parties past → has_word o word ≡ false → word_in z o past word ≡ 0
 absent_word {T} z Object.Mutex parties past word run lacks = lacked_word z mutex_table parties word (mutex_lacks T word (not_state T Object.Mutex word lacks)) past run.1

@@ -6,5 +6,4 @@ pub mod Headlines
 pub mod CallLaws
 pub mod WatchLaws
 pub mod Plays
-pub mod SpinLaws
 pub mod StrideLaws

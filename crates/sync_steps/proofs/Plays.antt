@@ -1,8 +1,8 @@
 -- Playing one more input.
 use Rattle.sync_steps.specs.Names.{Event, Input, Object, StepFault, Arithmetic, after}
-use Rattle.sync_steps.proofs.Names.{◌≡◌, ℕ, ◌+◌, ◌<◌, refl, sym, ◌∙◌, ap, subst, List, [], ◌∷◌, ◌++◌, length, take, get_or, Some, slice_get, slice_get-get_or, take_more}
+use Rattle.sync_steps.proofs.Names.{◌≡◌, ℕ, ◌+◌, ◌<◌, refl, sym, ◌∙◌, ap, subst, List, [], ◌∷◌, ◌++◌, length, take, get_or, Some, slice_get, slice_get-get_or, take_more, arith, eqb-true, eqb-false, nat_tests}
 use Rattle.sync_steps.specs.Runs.{fault_of, IsNext, IsRun}
-use Rattle.sync_steps.specs.Machine.{Configuration, StandsAt, Steps, Continues, Plays, PlaysUpTo}
+use Rattle.sync_steps.specs.Machine.{Configuration, StandsAt, Steps, Plays, PlaysUpTo}
 use Rattle.sync_steps.proofs.Headlines.{headline, prefixes}
 
 run_more :
@@ -49,12 +49,4 @@ pub refuses_next :
     i < length schedule → input ≡ get_or schedule i input → length events ≡ i → Plays z (take i schedule) old events mid → new ≡ mid →
     ((o : Object T) (parties : ℕ) (past : List (Event T)) → StandsAt z o parties past mid → fault_of z o parties past input.0 input.1 ≡ Some fault) →
     (o : Object T) (parties : ℕ) (past : List (Event T)) → StandsAt z o parties past old → PlaysUpTo z o parties past schedule events fault new
-refuses_next {T} z schedule i old mid new events input fault below is count plays same refuses o parties past at =
-    let before = plays o parties past at in
-    let here : Continues z o parties past (take i schedule) events new = subst (λ (m : Configuration T). Continues z o parties past (take i schedule) events m) (sym same) before in
-    record {
-      before = subst (λ k. Continues z o parties past (take k schedule) events new) (sym count) here;
-      input = input;
-      refused = ap (slice_get schedule) count ∙ slice_get-get_or schedule i input below ∙ ap Some (sym is);
-      fault_is = refuses o parties (after events past) before.stands;
-    }
+refuses_next z schedule i old mid new events input fault h1 h2 h3 h4 h5 h6 o parties past h7 = grind (arith, nat_tests, eqb-true, eqb-false, take, slice_get, slice_get-get_or)

@@ -1,6 +1,6 @@
 -- A turn leads from where a run stands to where it stands with one more event.
 use Rattle.sync_steps.specs.Names.{ForSome, replicate, Event, Input, Object, StepFault, Act, Then, Word, HoldKind, word_at, Arithmetic, PendingCall, call_of, call_after, hold_of, hold_after, word_after, failures_in, event, InputValues, fault_at, Table}
-use Rattle.sync_steps.proofs.Names.{◌≡◌, ◌≢◌, ℕ, zero, suc, ◌<◌, ◌≤◌, refl, sym, ◌∙◌, ap, subst, List, [], ◌∷◌, length, false, Option, Some, None, Result, Ok, Err, IfOk, IfErr, ◌⊎◌, inl, inr, slice_get, slice_set, get_or, Bool, true, cond, nat_lt, arith, slice_get-get_or, lt-ltb, ltb-true, eqb_tells, length-set, length-replicate, set-get_or, call_of_same, call_of_other, hold_of_same, hold_of_other}
+use Rattle.sync_steps.proofs.Names.{◌≡◌, ◌≢◌, ℕ, zero, suc, ◌<◌, ◌≤◌, refl, sym, ◌∙◌, ap, subst, List, [], ◌∷◌, length, false, Option, Some, None, Result, Ok, Err, IfOk, IfErr, ◌⊎◌, inl, inr, slice_get, slice_set, get_or, arith, slice_get-get_or, lt-ltb, eqb_tells, length-set, length-replicate, set-get_or, call_of_same, call_of_other, hold_of_same, hold_of_other, eqb-true, eqb-false, nat_tests}
 use std.Path.{fun_ext}
 use Rattle.model_events.specs.Moves as moves
 use Rattle.model_events.specs.Runs as runs
@@ -36,14 +36,7 @@ TurnsAfter z o past party input turn = Turns z o (call_of party past) (hold_of (
 is_next :
     {T : Type 0} (z : Arithmetic T) (o : Object T) (parties : ℕ) (past : List (Event T)) (party : ℕ) (input : Input T) (turn : Turn T) →
     party < parties → InputValues z input → TurnsAfter z o past party input turn → IsNext z o parties past party input (event party turn.act turn.outcome)
-is_next z o parties past party input turn below values turns =
-    record {
-      allowed = rw (lt-ltb party parties below) turns.allowed;
-      values = values;
-      party_is = refl;
-      form = turns.form;
-      moved = turns.moved;
-    }
+is_next z o parties past party input turn h1 h2 h3 = grind (arith, nat_tests, eqb-true, eqb-false)
 
 -- a party other than the one whose turn it was is as before, and that one as its turn leaves it
 stands_each :
@@ -201,8 +194,7 @@ turns_headline z party input old new (Err fault) steps = tt
 pub turns_fault :
     {T : Type 0} (z : Arithmetic T) (party : ℕ) (input known : Input T) (old : Configuration T) (result : Result (Event T) StepFault) →
     party < length old.parties → input ≡ known → IfErr result (HasRefused z party known old) → IfErr result (RefusesStep z old party input)
-turns_fault z party input known old (Ok made) within same refused = tt
-turns_fault z party input known old (Err fault) within same refused = refused_step z party input known old fault within same refused
+turns_fault z party input known old result h1 h2 h3 = grind (arith, nat_tests, eqb-true, eqb-false, refused_step)
 
 -- a party changed in place
 abbrev pub with_party : {T : Type 0} → Configuration T → ℕ → Party T → Configuration T
@@ -244,19 +236,12 @@ refused_in_place {T} z {party} {input} {found} after {answer} {fault} {own} same
 pub kept_in_place :
     {T : Type 0} (party : ℕ) (turn : Result (Turn T) StepFault) {found : Party T} (after : Party T) {answer : Result (Act T × Then T) StepFault} {fault : StepFault} {own old : Configuration T} →
     own ≡ old → found ≡ get_or own.parties party found → TurnsTo turn found after answer → answer ≡ Err fault → with_party own party after ≡ old
-kept_in_place {T} party turn {found} after {answer} {fault} {own} same there turned is =
-    let kept : after ≡ found = (subst (TurnsTo turn found after) is turned).1 in
-    let parties : slice_set own.parties party after ≡ own.parties = ap (slice_set own.parties party) (kept ∙ there) ∙ set-get_or own.parties party found in
-    ap (λ (xs : List (Party T)). record { object = own.object; parties = xs; words = own.words; failed = own.failed }) parties ∙ same
+kept_in_place party turn after h1 h2 h3 h4 = grind (arith, nat_tests, eqb-true, eqb-false, slice_set, set-get_or)
 
 -- What the machine tells of a hold.
 
 there_to_move : {T P : Type 0} (t : Table T P) (parties : ℕ) (past : List (Event T)) (party : ℕ) (input : Input T) → moves.fault_of t parties past party input ≡ None → party < parties
-there_to_move t parties past party input allowed = by_test (nat_lt party parties) (fault_at t (call_of party past) (hold_of t party past) input) refl allowed
-  where
-    by_test : (b : Bool) (fault : Option StepFault) → nat_lt party parties ≡ b → cond b fault (Some StepFault.NoParty) ≡ None → party < parties
-    by_test true fault is allowed = ltb-true party parties is
-    by_test false fault is allowed = absurd cc
+there_to_move t parties past party input h1 = grind (arith, nat_tests, eqb-true, eqb-false)
 
 -- a party that is not there holds nothing
 absent_party : {T P : Type 0} (z : Arithmetic T) (t : Table T P) (parties p : ℕ) → (p < parties → ⊥) → (past : List (Event T)) → runs.IsPast z t parties past → hold_of t p past ≡ None
@@ -275,13 +260,9 @@ party_at {T} z o parties past m xs p found at same within there =
 
 pub beyond_at :
     {T : Type 0} (z : Arithmetic T) (o : Object T) (parties : ℕ) (past : List (Event T)) (m : Configuration T) (xs : List (Party T)) (p : ℕ) → StandsAt z o parties past m → xs ≡ m.parties → length xs ≤ p → parties ≤ p
-beyond_at z o parties past m xs p at same beyond =
-    let count : length xs ≡ parties = ap length same ∙ at.count in
-    omega (arith, count, beyond)
+beyond_at z o parties past m xs p h1 h2 h3 = grind (arith, nat_tests, eqb-true, eqb-false)
 
 pub unheld_at :
     {T : Type 0} (z : Arithmetic T) (o : Object T) (parties : ℕ) (past : List (Event T)) (m : Configuration T) (xs : List (Party T)) (p : ℕ) → StandsAt z o parties past m → xs ≡ m.parties →
     length xs ≤ p → None ≡ hold_of (table_of z o) p past
-unheld_at {T} z o parties past m xs p at same beyond =
-    let far = beyond_at z o parties past m xs p at same beyond in
-    sym (absent_party z (table_of z o) parties p (λ below. absurd (omega (arith, far, below))) past at.run.1)
+unheld_at z o parties past m xs p h1 h2 h3 = grind (arith, nat_tests, eqb-true, eqb-false, beyond_at, absent_party)

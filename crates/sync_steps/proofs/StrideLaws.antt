@@ -1,18 +1,17 @@
 -- A spin is the run of its tries: each does the same, and leads to the next.
-use Rattle.sync_steps.specs.Names.{replicate, Act, Call, Event, Input, Object, Then, Word, HoldKind, After, Intent, Arithmetic, same_word, word_after, is_failure, failures_by, event, carried_out, value_told, word_at}
-use Rattle.sync_steps.proofs.Names.{◌≡◌, ℕ, zero, suc, ◌+◌, ◌*◌, ◌-◌, ◌^◌, ◌<◌, ◌≤◌, ◌==◌, ◌&&◌, not, min, refl, sym, ◌∙◌, ap, subst, List, [], ◌∷◌, length, Bool, true, false, cond, Option, Some, None, Ok, slice_get, slice_set, arith, length-set, eqb-true}
+use Rattle.sync_steps.specs.Names.{replicate, Act, Event, Input, Object, Then, Word, Intent, Arithmetic, word_after, is_failure, failures_by, event, carried_out, value_told, word_at}
+use Rattle.sync_steps.proofs.Names.{◌≡◌, ℕ, zero, suc, ◌+◌, ◌*◌, ◌-◌, ◌^◌, ◌<◌, ◌≤◌, ◌==◌, ◌&&◌, min, refl, sym, ◌∙◌, ap, subst, List, [], ◌∷◌, length, Bool, true, cond, Option, Some, None, Ok, slice_get, slice_set, arith, length-set, eqb-true, eqb-false, nat_tests}
 use Rattle.sync_steps.specs.declared.steps.place.Doing.{Doing}
 use Rattle.sync_steps.specs.declared.steps.place.Party.{Party}
 use Rattle.sync_steps.specs.declared.steps.place.Place.{Place}
 use Rattle.sync_steps.specs.Machine.{Configuration, Steps, Plays}
 use Rattle.sync_steps.specs.Machine.Applies.{HasTurned}
-use Rattle.sync_steps.specs.Machine.Places.{intent_at, after_at}
-use Rattle.sync_steps.specs.Machine.Turns.{new_hold, turn_after, turn_at}
+use Rattle.sync_steps.specs.Machine.Places.{intent_at}
+use Rattle.sync_steps.specs.Machine.Turns.{turn_at}
 use Rattle.sync_steps.specs.Machine.Spins.{spins_at, spun_at}
 use Rattle.sync_steps.specs.Machine.Strides.{Strides, is_quiet, spun_party, HasSpun}
 use Rattle.sync_steps.proofs.Headlines.{headline}
 use Rattle.sync_steps.proofs.Stands.{turns_step}
-use Rattle.sync_steps.proofs.SpinLaws.{spins_again, spun_at_none, spun_intent}
 
 -- Lists.
 
@@ -33,74 +32,8 @@ got_below (x ∷ xs) (suc i) v got = let within = got_below xs i v got in omega 
 
 -- A quiet act.
 
-and_both : (a b : Bool) → (a && b) ≡ true → (a ≡ true) × (b ≡ true)
-and_both true b is = (refl, is)
-and_both false b is = absurd cc
-
-not_true : (d : Bool) → not d ≡ true → d ≡ false
-not_true true is = absurd cc
-not_true false is = refl
-
-undone : (same done : Bool) (to value : ℕ) → done ≡ false → cond (same && done) to value ≡ value
-undone true true to value is = absurd cc
-undone true false to value is = refl
-undone false done to value is = refl
-
-same_words : (a b : Word) → same_word a b ≡ true → a ≡ b
-same_words Word.State Word.State is = refl
-same_words Word.Counter Word.Counter is = refl
-same_words Word.Waiters Word.Waiters is = refl
-same_words Word.Value Word.Value is = refl
-same_words Word.Low Word.Low is = refl
-same_words Word.High Word.High is = refl
-same_words a b is = absurd cc
-
--- a swap of a value for itself
-swapped : (w word : Word) (put : ℕ) (memory : Word → ℕ) (b : Bool) → same_word w word ≡ b → memory w ≡ put → cond b put (memory word) ≡ memory word
-swapped w word put memory true same is = sym is ∙ ap memory (same_words w word same)
-swapped w word put memory false same is = refl
-
 quiet_word : {T : Type 0} (i : Intent T) (memory : Word → ℕ) (word : Word) → is_quiet (carried_out i memory) ≡ true → word_after word (carried_out i memory) (memory word) ≡ memory word
-quiet_word (Intent.Load w) memory word quiet = refl
-quiet_word (Intent.Store w put) memory word quiet = absurd cc
-quiet_word (Intent.Swap w put) memory word quiet = swapped w word put memory (same_word w word) refl (eqb-true (memory w) put (and_both (memory w == put) (not (memory w == 0)) quiet).0)
-quiet_word (Intent.Add w more) memory word quiet = absurd cc
-quiet_word (Intent.Subtract w less) memory word quiet = absurd cc
-quiet_word (Intent.Exchange w from to) memory word quiet = undone (same_word w word) (memory w == from) to (memory word) (not_true (memory w == from) quiet)
-quiet_word (Intent.Wake wake) memory word quiet = absurd cc
-quiet_word Intent.End memory word quiet = absurd cc
-quiet_word (Intent.ReadCell v) memory word quiet = absurd cc
-
-quiet_exchange : {T : Type 0} (z : Arithmetic T) (o : Object T) (call : Call T) (w : Word) (from to found : ℕ) (done : Bool) (hold : Option HoldKind) → not done ≡ true → new_hold z o call (Act.Exchange w from to found done) hold ≡ hold
-quiet_exchange z o call w from to found true hold quiet = absurd cc
-quiet_exchange z o call Word.State from to found false hold quiet = refl
-quiet_exchange z o call Word.Counter from to found false hold quiet = refl
-quiet_exchange z o call Word.Waiters from to found false hold quiet = refl
-quiet_exchange z o call Word.Value from to found false hold quiet = refl
-quiet_exchange z o call Word.Low from to found false hold quiet = refl
-quiet_exchange z o call Word.High from to found false hold quiet = refl
-
-quiet_swap : {T : Type 0} (z : Arithmetic T) (o : Object T) (call : Call T) (w : Word) (old put : ℕ) (hold : Option HoldKind) → not (old == 0) ≡ true → new_hold z o call (Act.Swap w old put) hold ≡ hold
-quiet_swap z o call Word.State zero put hold quiet = absurd cc
-quiet_swap z o call Word.State (suc old) put hold quiet = refl
-quiet_swap z o call Word.Counter old put hold quiet = refl
-quiet_swap z o call Word.Waiters old put hold quiet = refl
-quiet_swap z o call Word.Value old put hold quiet = refl
-quiet_swap z o call Word.Low old put hold quiet = refl
-quiet_swap z o call Word.High old put hold quiet = refl
-
-quiet_hold : {T : Type 0} (z : Arithmetic T) (o : Object T) (call : Call T) (act : Act T) (hold : Option HoldKind) → is_quiet act ≡ true → new_hold z o call act hold ≡ hold
-quiet_hold z o call (Act.Load w seen) hold quiet = refl
-quiet_hold z o call (Act.Exchange w from to found done) hold quiet = quiet_exchange z o call w from to found done hold quiet
-quiet_hold z o call (Act.Swap w old put) hold quiet = quiet_swap z o call w old put hold (and_both (old == put) (not (old == 0)) quiet).1
-quiet_hold z o call (Act.Begun c) hold quiet = absurd cc
-quiet_hold z o call (Act.Store w put) hold quiet = absurd cc
-quiet_hold z o call (Act.Add w old put) hold quiet = absurd cc
-quiet_hold z o call (Act.Woke wake) hold quiet = absurd cc
-quiet_hold z o call (Act.Answered action) hold quiet = absurd cc
-quiet_hold z o call (Act.Chosen choice) hold quiet = absurd cc
-quiet_hold z o call Act.Ended hold quiet = absurd cc
-quiet_hold z o call (Act.ReadCell v) hold quiet = absurd cc
+quiet_word i memory word h1 = grind (arith, nat_tests, eqb-true, eqb-false)
 
 -- The tries.
 
@@ -109,8 +42,7 @@ counted f failed count is = omega (arith, is)
 
 -- so many more failures, one before the others
 counted_both : (b : Bool) (n failed : ℕ) → min (suc (suc n) * cond b 1 0 + failed) (2 ^ 64 - 1) ≡ min (suc n * cond b 1 0 + min (1 * cond b 1 0 + failed) (2 ^ 64 - 1)) (2 ^ 64 - 1)
-counted_both true n failed = omega arith
-counted_both false n failed = omega arith
+counted_both b n failed = grind (arith, nat_tests, eqb-true, eqb-false)
 
 -- the machine after so many tries of a party that had made i of them
 record Tried {T : Type 0} (party : ℕ) (found : Party T) (doing : Doing T) (act : Act T) (n i : ℕ) (old new : Configuration T) : Type 0 where
@@ -127,14 +59,12 @@ record IsTrying {T : Type 0} (z : Arithmetic T) (party : ℕ) (found : Party T) 
   quiet : is_quiet act ≡ true
   most : i + n ≤ spins_at doing.place (value_told act)
 
+spun_at_none : {T : Type 0} (place : Place T) (told : Option ℕ) → 0 < spins_at place told → spun_at 0 place ≡ place
+spun_at_none place told h1 = grind (arith, nat_tests, eqb-true, eqb-false)
+
 try_turns : {T : Type 0} (z : Arithmetic T) (o : Object T) (found : Party T) (doing : Doing T) (act : Act T) (i : ℕ) (memory : Word → ℕ) → act ≡ carried_out (intent_at z doing.place found.hold) memory → is_quiet act ≡ true → i < spins_at doing.place (value_told act) →
     turn_at z o (spun_party found doing i) memory Input.Go ≡ Ok (record { act = act; outcome = Then.GoesOn; party = spun_party found doing (i + 1) })
-try_turns {T} z o found doing act i memory act_is quiet below =
-    let here : Place T = spun_at i doing.place in
-    let same : carried_out (intent_at z here found.hold) memory ≡ act = ap (λ (x : Intent T). carried_out x memory) (spun_intent z doing.place i found.hold) ∙ sym act_is in
-    ap (λ (a : Act T). Ok (turn_after z o doing.call found.hold a (after_at z here (value_told a)))) same
-    ∙ ap (λ (x : After T (Place T)). Ok (turn_after z o doing.call found.hold act x)) (spins_again z doing.place (value_told act) i below)
-    ∙ ap (λ (h : Option HoldKind). Ok (record { act = act; outcome = Then.GoesOn; party = record { doing = Some (record { call = doing.call; place = spun_at (i + 1) doing.place; stands = None }); hold = h } })) (quiet_hold z o doing.call act found.hold quiet)
+try_turns z o found doing act i memory h1 h2 h3 = grind (arith, nat_tests, eqb-true, eqb-false)
 
 one_try : {T : Type 0} (z : Arithmetic T) (party : ℕ) (found : Party T) (doing : Doing T) (act : Act T) (n i : ℕ) (old new : Configuration T) → IsTrying z party found doing act (suc n) i old → Tried party found doing act 1 i old new →
     HasTurned z party Input.Go old new (event party act Then.GoesOn)

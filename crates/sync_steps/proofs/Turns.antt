@@ -1,13 +1,13 @@
 -- The turn of a party that is where a run's call is, is the move that the definitions give, and leaves it where they do.
-use Rattle.sync_steps.specs.Names.{WaitAction, Act, Call, Event, Input, Object, StepFault, Then, Word, HoldKind, Intent, After, Arithmetic, carried_out, value_told, outcome_of, place_after, within, PendingCall, call_after, call_going_on, hold_after, latest_outcome, event, stage_of, next_stage, stage_after, move_of, fault_at, go_fault, answer_fault, choose_fault, is_locking, HasForm}
-use Rattle.sync_steps.proofs.Names.{◌≡◌, refl, sym, ◌∙◌, ap, subst, ℕ, Bool, true, false, ◌&&◌, cond, is_some, is_none, ◌∷◌, Option, Some, None, Result, Ok, Err, ◌⊎◌, inl, inr, carried_is_step, carried_goes_on, carried_stage}
+use Rattle.sync_steps.specs.Names.{WaitAction, Act, Call, Input, Object, StepFault, Then, Word, HoldKind, Intent, After, Arithmetic, carried_out, value_told, outcome_of, within, PendingCall, call_after, hold_after, latest_outcome, event, stage_of, next_stage, stage_after, move_of, fault_at, go_fault, answer_fault, choose_fault, is_locking, HasForm}
+use Rattle.sync_steps.proofs.Names.{◌≡◌, refl, sym, ◌∙◌, ap, subst, ℕ, Bool, true, false, ◌&&◌, cond, is_some, is_none, ◌∷◌, Option, Some, None, Result, Ok, Err, ◌⊎◌, carried_is_step, arith, eqb-true, eqb-false, nat_tests}
 use Rattle.sync_steps.specs.declared.steps.place.Doing.{Doing}
 use Rattle.sync_steps.specs.declared.steps.place.Party.{Party}
 use Rattle.sync_steps.specs.declared.steps.place.Place.{Place}
 use Rattle.sync_steps.specs.Machine.Turns.{Turn}
 use Rattle.sync_steps.specs.Objects.{place_of, table_of}
-use Rattle.sync_steps.specs.Machine.Places.{place_in, closure_of, IsDoing, DoesCall, IsParty, map_place, begins_at, answered_at, chosen_at, needs_hold_at}
-use Rattle.sync_steps.specs.Machine.Turns.{doing_after, turn_after, stepped_by, begun, begin_at, begin_turn, stepped, go_at, told_answer, is_at_wait, is_at_choice, answer_at, choose_at, turn_at}
+use Rattle.sync_steps.specs.Machine.Places.{place_in, closure_of, IsDoing, DoesCall, IsParty, map_place, begins_at, needs_hold_at}
+use Rattle.sync_steps.specs.Machine.Turns.{doing_after, turn_after, stepped_by, begun, begin_at, begin_turn, stepped, go_at, is_at_wait, is_at_choice, answer_at, choose_at, turn_at}
 use Rattle.sync_steps.proofs.Places.{begins_is, intent_is, after_is, answered_is, chosen_is, needs_hold_is, new_hold_is}
 
 -- the turn is what the input gives: the move of the definitions, which leaves the party where they do
@@ -25,33 +25,17 @@ TurnsOr z o pending hold memory input (Err fault) = fault_at (table_of z o) pend
 -- A beginning.
 
 begins_some : {T P : Type 0} (wrap : P → Place T) (found : Option P) (place : Place T) → map_place wrap found ≡ Some place → (p : P) × (found ≡ Some p) × (wrap p ≡ place)
-begins_some wrap None place is = absurd cc
-begins_some {T} wrap (Some p) place is = (p, refl, some_is (wrap p) place is)
-  where
-    some_is : (x y : Place T) → Some x ≡ Some y → x ≡ y
-    some_is x y same = cc
+begins_some wrap found place h1 = grind (arith, nat_tests, eqb-true, eqb-false)
 
 begins_none : {T P : Type 0} (wrap : P → Place T) (found : Option P) → map_place wrap found ≡ None → found ≡ None
-begins_none wrap None is = refl
-begins_none wrap (Some p) is = absurd cc
+begins_none wrap found h1 = grind (arith, nat_tests, eqb-true, eqb-false)
 
 -- an input that may begin the call, by two tests: who holds may not lock, and who does not may not unlock
 begins_by :
     {T : Type 0} (z : Arithmetic T) (o : Object T) (call : Call T) (hold : Option HoldKind) (memory : Word → ℕ) (place : Place T) (p : place_of o) (holds lacks : Bool) → (table_of z o).begins call ≡ Some p → place_in o p ≡ place →
     (is_locking call && is_some hold) ≡ holds → (needs_hold_at z o call && is_none hold) ≡ lacks →
     TurnsOr z o None hold memory (Input.Begin call) (cond holds (Err StepFault.Holding) (cond lacks (Err StepFault.NoHold) (Ok (begun (record { doing = None; hold = hold }) call place))))
-begins_by z o call hold memory place p true lacks begins is locks needs = rw (begins, locks) refl
-begins_by {T} z o call hold memory place p false true begins is locks needs =
-    let needed : ((table_of z o).needs_hold call && is_none hold) ≡ true = ap (λ b. b && is_none hold) (sym (needs_hold_is z o call)) ∙ needs in
-    rw (begins, locks, needed) refl
-begins_by {T} z o call hold memory place p false false begins is locks needs =
-    let needed : ((table_of z o).needs_hold call && is_none hold) ≡ false = ap (λ b. b && is_none hold) (sym (needs_hold_is z o call)) ∙ needs in
-    record {
-      allowed = rw (begins, locks, needed) refl;
-      form = refl;
-      moved = refl;
-      leaves = λ number. record { doing = record { call_is = refl; place = (p, is, begins); stands_is = refl }; hold_is = refl };
-    }
+begins_by z o call hold memory place p holds lacks h1 h2 h3 h4 = grind (arith, nat_tests, eqb-true, eqb-false, is_none, needs_hold_is)
 
 begin_turns :
     {T : Type 0} (z : Arithmetic T) (o : Object T) (doing : Option (Doing T)) (hold : Option HoldKind) (memory : Word → ℕ) (call : Call T) (pending : Option (PendingCall T)) → DoesCall z o doing pending →
@@ -71,10 +55,7 @@ begin_turns {T} z o None hold memory call None at = by_place (begins_at z o call
 -- A step.
 
 outcome_within : {T P Q : Type 0} (wrap : P → Q) (a : After T P) → outcome_of (within wrap a) ≡ outcome_of a
-outcome_within wrap (After.At place) = refl
-outcome_within wrap (After.Waits place seen) = refl
-outcome_within wrap (After.Chooses place old) = refl
-outcome_within wrap (After.Ends answer) = refl
+outcome_within wrap a = grind (arith, nat_tests, eqb-true, eqb-false)
 
 -- the party after a step, by how its call goes on
 leaves_by :
@@ -82,44 +63,14 @@ leaves_by :
     (table_of z o).after p (value_told (carried_out ((table_of z o).intent p hold) memory)) ≡ a →
     DoesCall z o (doing_after c.call (within (place_in o) a))
     (call_after (outcome_of (within (place_in o) a)) (event number (carried_out ((table_of z o).intent p hold) memory) (outcome_of (within (place_in o) a))) (Some c))
-leaves_by {T} z o c hold memory p number a stage is = by_after a is
-  where
-    act : Act T
-    act = carried_out ((table_of z o).intent p hold) memory
-
-    reaches : (e : Event T) (b : After T (place_of o)) (q : place_of o) → (table_of z o).after p (value_told act) ≡ b → place_after b ≡ Some q → next_stage (table_of z o) act (stage_of (table_of z o) c) ≡ Some q
-    reaches e b q same to = ap (next_stage (table_of z o) act) stage ∙ carried_stage (table_of z o) p ((table_of z o).intent p hold) memory ∙ ap place_after same ∙ to
-
-    goes : (doing : Doing T) (e : Event T) → IsDoing z o doing (record { call = c.call; own = e ∷ c.own }) → DoesCall z o (Some doing) (call_going_on act e (Some c))
-    goes doing e at = subst (λ (k : Option (PendingCall T)). DoesCall z o (Some doing) k) (sym (carried_goes_on ((table_of z o).intent p hold) memory e c)) at
-
-    by_after : (b : After T (place_of o)) → (table_of z o).after p (value_told act) ≡ b →
-        DoesCall z o (doing_after c.call (within (place_in o) b)) (call_after (outcome_of (within (place_in o) b)) (event number act (outcome_of (within (place_in o) b))) (Some c))
-    by_after (After.At q) same =
-        let e : Event T = event number act Then.GoesOn in
-        goes _ e (record { call_is = refl; place = (q, refl, reaches e (After.At q) q same refl); stands_is = refl })
-    by_after (After.Waits q seen) same =
-        let e : Event T = event number act (Then.Waits seen) in
-        goes _ e (record { call_is = refl; place = (q, refl, reaches e (After.Waits q seen) q same refl); stands_is = refl })
-    by_after (After.Chooses q old) same =
-        let e : Event T = event number act (Then.Chooses old) in
-        goes _ e (record { call_is = refl; place = (q, refl, reaches e (After.Chooses q old) q same refl); stands_is = refl })
-    by_after (After.Ends answer) same = tt
+leaves_by z o c hold memory p number a h1 h2 = grind (arith, nat_tests, eqb-true, eqb-false)
 
 -- the step at a place of the table
 table_steps :
     {T : Type 0} (z : Arithmetic T) (o : Object T) (c : PendingCall T) (hold : Option HoldKind) (memory : Word → ℕ) (p : place_of o) → stage_of (table_of z o) c ≡ Some p → go_fault (latest_outcome c.own) ≡ None →
     Turns z o (Some c) hold memory Input.Go
     (turn_after z o c.call hold (carried_out ((table_of z o).intent p hold) memory) (within (place_in o) ((table_of z o).after p (value_told (carried_out ((table_of z o).intent p hold) memory)))))
-table_steps {T} z o c hold memory p stage free =
-    let act = carried_out ((table_of z o).intent p hold) memory in
-    let a = (table_of z o).after p (value_told act) in
-    record {
-      allowed = free;
-      form = carried_is_step ((table_of z o).intent p hold) memory;
-      moved = rw (stage, outcome_within (place_in o) a) refl;
-      leaves = λ number. record { doing = leaves_by z o c hold memory p number a stage refl; hold_is = new_hold_is z o act c hold };
-    }
+table_steps z o c hold memory p h1 h2 = grind (arith, nat_tests, eqb-true, eqb-false, carried_is_step, outcome_within, leaves_by, new_hold_is)
 
 -- the step at the code's place
 steps_at :
@@ -137,23 +88,12 @@ steps_at {T} z o doing c hold memory at free =
 
 -- whether a call makes steps, by how it was left
 goes_by : {T : Type 0} (outcome : Then T) → ((is_some (closure_of outcome) ≡ true) × (go_fault outcome ≡ Some StepFault.WaitingForAnswer)) ⊎ ((is_some (closure_of outcome) ≡ false) × (go_fault outcome ≡ None))
-goes_by Then.GoesOn = inr (refl, refl)
-goes_by (Then.Waits seen) = inl (refl, refl)
-goes_by (Then.Chooses old) = inl (refl, refl)
-goes_by (Then.Answers answer) = inr (refl, refl)
+goes_by outcome = grind (arith, nat_tests, eqb-true, eqb-false)
 
 go_turns :
     {T : Type 0} (z : Arithmetic T) (o : Object T) (doing : Option (Doing T)) (hold : Option HoldKind) (memory : Word → ℕ) (pending : Option (PendingCall T)) → DoesCall z o doing pending →
     TurnsOr z o pending hold memory Input.Go (go_at z o doing hold memory)
-go_turns z o None hold memory (Some c) at = absurd at
-go_turns z o (Some doing) hold memory None at = absurd at
-go_turns z o None hold memory None at = refl
-go_turns {T} z o (Some doing) hold memory (Some c) at = by_outcome (goes_by (latest_outcome c.own))
-  where
-    by_outcome : ((is_some (closure_of (latest_outcome c.own)) ≡ true) × (go_fault (latest_outcome c.own) ≡ Some StepFault.WaitingForAnswer)) ⊎ ((is_some (closure_of (latest_outcome c.own)) ≡ false) × (go_fault (latest_outcome c.own) ≡ None)) →
-        TurnsOr z o (Some c) hold memory Input.Go (cond (is_some doing.stands) (Err StepFault.WaitingForAnswer) (Ok (stepped z o doing hold memory)))
-    by_outcome (inl stands) = let is : is_some doing.stands ≡ true = ap is_some at.stands_is ∙ stands.0 in rw is stands.1
-    by_outcome (inr free) = let is : is_some doing.stands ≡ false = ap is_some at.stands_is ∙ free.0 in rw is (steps_at z o doing c hold memory at free.1)
+go_turns z o doing hold memory pending h1 = grind (arith, nat_tests, eqb-true, eqb-false, goes_by, is_some, steps_at)
 
 -- An answer.
 
@@ -167,70 +107,20 @@ at_place_of : {T : Type 0} (z : Arithmetic T) (o : Object T) (doing : Doing T) (
 at_place_of z o doing c f p q is to = ap f (sym is) ∙ to
 
 answers_by : {T : Type 0} (outcome : Then T) → ((is_at_wait (closure_of outcome) ≡ true) × (answer_fault outcome ≡ None)) ⊎ ((is_at_wait (closure_of outcome) ≡ false) × (answer_fault outcome ≡ Some StepFault.NotWaiting))
-answers_by Then.GoesOn = inr (refl, refl)
-answers_by (Then.Waits seen) = inl (refl, refl)
-answers_by (Then.Chooses old) = inr (refl, refl)
-answers_by (Then.Answers answer) = inr (refl, refl)
+answers_by outcome = grind (arith, nat_tests, eqb-true, eqb-false)
 
 chooses_by : {T : Type 0} (outcome : Then T) → ((is_at_choice (closure_of outcome) ≡ true) × (choose_fault outcome ≡ None)) ⊎ ((is_at_choice (closure_of outcome) ≡ false) × (choose_fault outcome ≡ Some StepFault.NotWaiting))
-chooses_by Then.GoesOn = inr (refl, refl)
-chooses_by (Then.Waits seen) = inr (refl, refl)
-chooses_by (Then.Chooses old) = inl (refl, refl)
-chooses_by (Then.Answers answer) = inr (refl, refl)
+chooses_by outcome = grind (arith, nat_tests, eqb-true, eqb-false)
 
 answer_turns :
     {T : Type 0} (z : Arithmetic T) (o : Object T) (doing : Option (Doing T)) (hold : Option HoldKind) (memory : Word → ℕ) (action : WaitAction) (pending : Option (PendingCall T)) → DoesCall z o doing pending →
     TurnsOr z o pending hold memory (Input.Answer action) (answer_at z doing hold action)
-answer_turns z o None hold memory action (Some c) at = absurd at
-answer_turns z o (Some doing) hold memory action None at = absurd at
-answer_turns z o None hold memory action None at = refl
-answer_turns {T} z o (Some doing) hold memory action (Some c) at = by_outcome (answers_by (latest_outcome c.own))
-  where
-    made : Turn T
-    made = told_answer (Act.Answered action) doing hold (answered_at z doing.place action)
-
-    p : place_of o
-    p = at.place.0
-
-    does : (number : ℕ) → IsDoing z o (record { call = doing.call; place = answered_at z doing.place action; stands = None }) (record { call = c.call; own = event number (Act.Answered action) Then.GoesOn ∷ c.own })
-    does number =
-        let is = at_place_of z o doing c (λ k. answered_at z k action) p ((table_of z o).answered p action) at.place.1 (answered_is z o p action) in
-        subst (λ (call : Call T). IsDoing z o (record { call = call; place = answered_at z doing.place action; stands = None }) (record { call = c.call; own = event number (Act.Answered action) Then.GoesOn ∷ c.own })) (sym at.call_is)
-        (leaves_at z o c (Act.Answered action) p ((table_of z o).answered p action) (answered_at z doing.place action) is at.place.2 refl number)
-
-    by_outcome : ((is_at_wait (closure_of (latest_outcome c.own)) ≡ true) × (answer_fault (latest_outcome c.own) ≡ None)) ⊎ ((is_at_wait (closure_of (latest_outcome c.own)) ≡ false) × (answer_fault (latest_outcome c.own) ≡ Some StepFault.NotWaiting)) →
-        TurnsOr z o (Some c) hold memory (Input.Answer action) (cond (is_at_wait doing.stands) (Ok made) (Err StepFault.NotWaiting))
-    by_outcome (inl stands) =
-        let is : is_at_wait doing.stands ≡ true = ap is_at_wait at.stands_is ∙ stands.0 in
-        rw is (record { allowed = stands.1; form = refl; moved = refl; leaves = λ number. record { doing = does number; hold_is = refl } })
-    by_outcome (inr free) = let is : is_at_wait doing.stands ≡ false = ap is_at_wait at.stands_is ∙ free.0 in rw is free.1
+answer_turns z o doing hold memory action pending h1 = grind (arith, nat_tests, eqb-true, eqb-false, answers_by, at_place_of, answered_is, leaves_at)
 
 choose_turns :
     {T : Type 0} (z : Arithmetic T) (o : Object T) (doing : Option (Doing T)) (hold : Option HoldKind) (memory : Word → ℕ) (choice : Option T) (pending : Option (PendingCall T)) → DoesCall z o doing pending →
     TurnsOr z o pending hold memory (Input.Choose choice) (choose_at z doing hold choice)
-choose_turns z o None hold memory choice (Some c) at = absurd at
-choose_turns z o (Some doing) hold memory choice None at = absurd at
-choose_turns z o None hold memory choice None at = refl
-choose_turns {T} z o (Some doing) hold memory choice (Some c) at = by_outcome (chooses_by (latest_outcome c.own))
-  where
-    made : Turn T
-    made = told_answer (Act.Chosen choice) doing hold (chosen_at z doing.place choice)
-
-    p : place_of o
-    p = at.place.0
-
-    does : (number : ℕ) → IsDoing z o (record { call = doing.call; place = chosen_at z doing.place choice; stands = None }) (record { call = c.call; own = event number (Act.Chosen choice) Then.GoesOn ∷ c.own })
-    does number =
-        let is = at_place_of z o doing c (λ k. chosen_at z k choice) p ((table_of z o).chosen p choice) at.place.1 (chosen_is z o p choice) in
-        subst (λ (call : Call T). IsDoing z o (record { call = call; place = chosen_at z doing.place choice; stands = None }) (record { call = c.call; own = event number (Act.Chosen choice) Then.GoesOn ∷ c.own })) (sym at.call_is)
-        (leaves_at z o c (Act.Chosen choice) p ((table_of z o).chosen p choice) (chosen_at z doing.place choice) is at.place.2 refl number)
-
-    by_outcome : ((is_at_choice (closure_of (latest_outcome c.own)) ≡ true) × (choose_fault (latest_outcome c.own) ≡ None)) ⊎ ((is_at_choice (closure_of (latest_outcome c.own)) ≡ false) × (choose_fault (latest_outcome c.own) ≡ Some StepFault.NotWaiting)) →
-        TurnsOr z o (Some c) hold memory (Input.Choose choice) (cond (is_at_choice doing.stands) (Ok made) (Err StepFault.NotWaiting))
-    by_outcome (inl stands) =
-        let is : is_at_choice doing.stands ≡ true = ap is_at_choice at.stands_is ∙ stands.0 in
-        rw is (record { allowed = stands.1; form = refl; moved = refl; leaves = λ number. record { doing = does number; hold_is = refl } })
-    by_outcome (inr free) = let is : is_at_choice doing.stands ≡ false = ap is_at_choice at.stands_is ∙ free.0 in rw is free.1
+choose_turns z o doing hold memory choice pending h1 = grind (arith, nat_tests, eqb-true, eqb-false, chooses_by, at_place_of, chosen_is, leaves_at)
 
 -- Whatever the input.
 pub turns_at :

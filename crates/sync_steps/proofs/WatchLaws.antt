@@ -1,7 +1,7 @@
 -- What a wait closure is told is what its call saw last of the word that it watches.
-use Rattle.sync_steps.specs.Names.{MatchOption, WaitAction, Act, Call, Event, Object, Then, Word, HoldKind, Patience, After, Arithmetic, Move, stage_of, stage_after, next_stage, seen_by, PendingCall, call_of, call_after, call_going_on, hold_of, word_in, event, carried_out, value_told, outcome_of, place_after, sight_of, is_sight, last_of, Table, RwWriterPlace, rw_writer_table, rw_writer_intent, rw_writer_after, rw_writer_begins, rw_writer_answered, last_look, CondvarPlace, condvar_table, condvar_intent, condvar_after, refused_by, SpinPlace, spin_after, OncePlace, once_after, LazyPlace, lazy_after, AtomicPlace, atomic_after}
-use Rattle.sync_steps.proofs.Names.{◌≡◌, refl, sym, ◌∙◌, ap, subst, ℕ, true, cond, is_some, List, [], ◌∷◌, Option, Some, None, ◌⊎◌, inl, inr, arith, nat_tests, some_same, call_of_same, by_move, carried_goes_on, carried_stage}
-use Rattle.model_events.specs.Asks.{Refusing, WhereAsked, TellsRefusal, sight_at}
+use Rattle.sync_steps.specs.Names.{MatchOption, Act, Call, Event, Object, Then, Word, HoldKind, Patience, After, Arithmetic, stage_of, seen_by, PendingCall, call_of, hold_of, word_in, event, carried_out, value_told, sight_of, is_sight, last_of, Table, RwWriterPlace, rw_writer_table, rw_writer_intent, rw_writer_after, last_look, CondvarPlace, condvar_table, condvar_intent, condvar_after, refused_by, SpinPlace, spin_after, OncePlace, once_after, LazyPlace, lazy_after, AtomicPlace, atomic_after}
+use Rattle.sync_steps.proofs.Names.{◌≡◌, refl, sym, ◌∙◌, ap, subst, ℕ, true, cond, is_some, List, [], ◌∷◌, Option, Some, None, ◌⊎◌, inl, inr, arith, nat_tests, eqb-true, eqb-false}
+use Rattle.model_events.specs.Asks.{Refusing, TellsRefusal, sight_at}
 use Rattle.model_events.specs.Runs as runs
 use Rattle.model_events.proofs.Parties.{IsKept, at_place}
 use Rattle.sync_steps.specs.declared.steps.place.Place.{Place}
@@ -9,12 +9,6 @@ use Rattle.sync_steps.specs.Objects.{table_of}
 use Rattle.sync_steps.specs.Runs.{IsPast}
 use Rattle.sync_steps.specs.Machine.Places.{place_in, watched_word, SawLast, TellsWatched}
 use Rattle.sync_steps.proofs.Headlines.{headline}
-
-waits_at : {T P : Type 0} (a : After T P) (told : ℕ) → outcome_of a ≡ Then.Waits told → (next : P) × (a ≡ After.Waits next told)
-waits_at (After.Waits next n) told is = (next, cc)
-waits_at (After.At place) told is = absurd cc
-waits_at (After.Chooses place old) told is = absurd cc
-waits_at (After.Ends answer) told is = absurd cc
 
 -- what is to be shown of the step that left the call at its closure
 abbrev WhereAStepWaits : {T P : Type 0} → Table T P → (P → Word) → List (Event T) → Event T → Type 0
@@ -25,39 +19,14 @@ WhereAStepWaits {T} {P} t watched past e =
 watches :
     {T P : Type 0} (z : Arithmetic T) (t : Table T P) (parties : ℕ) (watched : P → Word) (past : List (Event T)) (e : Event T) → runs.IsPast z t parties (e ∷ past) → WhereAStepWaits t watched past e →
     (told : ℕ) (c : PendingCall T) (place : P) → e.then ≡ Then.Waits told → call_of e.party (e ∷ past) ≡ Some c → stage_of t c ≡ Some place → SawLast (watched place) c.own told
-watches {T} {P} z t parties watched past e run rows told c place waits called stage =
-    by_move t (call_of e.party past) hold memory
-    (λ (k : Option (PendingCall T)) (x : Move T). call_of e.party past ≡ k → x.act ≡ e.act → x.outcome ≡ Then.Waits told → call_after x.outcome e k ≡ Some c → SawLast (watched place) c.own told)
-    run.0.0 (record { act = e.act; outcome = e.then }) (λ call _ was acted left made. absurd cc) (λ action _ was acted left made. absurd cc) (λ choice _ was acted left made. absurd cc)
-    (λ d from _ _ at was acted left made. stepped d from at was acted left made)
-    run.0.1.moved refl refl waits (sym (call_of_same e.party e.act e.then past) ∙ called)
-  where
-    hold : Option HoldKind
-    hold = hold_of t e.party past
-
-    memory : Word → ℕ
-    memory = word_in t past
-
-    stepped : (d : PendingCall T) (from : P) → stage_of t d ≡ Some from → call_of e.party past ≡ Some d → carried_out (t.intent from hold) memory ≡ e.act → outcome_of (t.after from (value_told (carried_out (t.intent from hold) memory))) ≡ Then.Waits told →
-        call_after (outcome_of (t.after from (value_told (carried_out (t.intent from hold) memory)))) e (Some d) ≡ Some c → SawLast (watched place) c.own told
-    stepped d from at was acted left made =
-        let next = waits_at (t.after from (value_told (carried_out (t.intent from hold) memory))) told left in
-        let grown : PendingCall T = record { call = d.call; own = e ∷ d.own } in
-        let on : call_going_on e.act e (Some d) ≡ Some c = subst (λ (o : Then T). call_after o e (Some d) ≡ Some c) left made in
-        let same : grown ≡ c = some_same grown c (sym (carried_goes_on (t.intent from hold) memory e d) ∙ ap (λ (act : Act T). call_going_on act e (Some d)) acted ∙ on) in
-        let here : stage_of t grown ≡ Some place = subst (λ (k : PendingCall T). stage_of t k ≡ Some place) (sym same) stage in
-        let landed : next.0 ≡ place = some_same next.0 place (sym (ap place_after next.1) ∙ sym (carried_stage t from (t.intent from hold) memory) ∙ ap (λ (act : Act T). stage_after t act from) acted ∙ ap (λ (s : Option P). next_stage t e.act s) (sym at) ∙ here) in
-        let saw = rows d from next.0 told was at (sym acted) waits next.1 in
-        subst (λ (k : PendingCall T). SawLast (watched place) k.own told) same (subst (λ (p : P). SawLast (watched p) (e ∷ d.own) told) landed saw)
+watches z t parties watched past e h1 h2 told c place h3 h4 h5 = grind (arith, nat_tests, eqb-true, eqb-false)
 
 -- The sight is that of the step itself, where what refused the call is told,
 
 asked :
     {T : Type 0} (refusing : Refusing T) (past : List (Event T)) (e : Event T) (c : PendingCall T) (told : ℕ) → TellsRefusal refusing (e ∷ past) → call_of e.party past ≡ Some c → e.then ≡ Then.Waits told →
     refusing c.call c.own e.act ≡ Some told
-asked {T} refusing past e c told tells was waits =
-    let P : PendingCall T → Act T → ℕ → Type 0 = λ k act n. refusing k.call k.own act ≡ Some n in
-    subst (λ (k : Option (PendingCall T)). WhereAsked P k e.act (Then.Waits told)) was (subst (λ (o : Then T). WhereAsked P (call_of e.party past) e.act o) waits tells)
+asked refusing past e c told h1 h2 h3 = grind (arith, nat_tests, eqb-true, eqb-false)
 
 saw_now : {T : Type 0} (word : Word) (e : Event T) (own : List (Event T)) (told : ℕ) → sight_of word e.act ≡ Some told → SawLast word (e ∷ own) told
 saw_now word e own told is = subst (λ (s : Option ℕ). seen_by word (cond (is_some s) (Some e.act) (last_of (is_sight word) own)) ≡ Some told) (sym is) is
@@ -100,10 +69,6 @@ act_at place hold memory = carried_out (rw_writer_intent Word.State Word.Counter
 abbrev after_at : {T : Type 0} → RwWriterPlace → Option HoldKind → (Word → ℕ) → After T RwWriterPlace
 after_at {T} place hold memory = rw_writer_after place (value_told {T = T} (act_at place hold memory))
 
-count_led : {T : Type 0} (place next : RwWriterPlace) (hold : Option HoldKind) (memory : Word → ℕ) (count : ℕ) →
-    place_after (after_at {T = T} place hold memory) ≡ Some next → count_at next ≡ Some count → act_at {T = T} place hold memory ≡ Act.Load Word.Counter count
-count_led place next hold memory count leads is = grind (arith, nat_tests)
-
 writer_told : {T : Type 0} (place next : RwWriterPlace) (hold : Option HoldKind) (memory : Word → ℕ) (told : ℕ) → after_at {T = T} place hold memory ≡ After.Waits next told → count_at place ≡ None →
     sight_of {T = T} (watched_word {T = T} Object.WriterLock (Place.RwWriter next)) (act_at place hold memory) ≡ Some told
 writer_told place next hold memory told is none = grind (arith, nat_tests)
@@ -130,31 +95,7 @@ writer_looks : {T : Type 0} (place : RwWriterPlace) (hold : Option HoldKind) (me
 writer_looks place hold memory count some = grind arith
 
 count_kept : {T : Type 0} → IsKept {T = T} rw_writer_table AtCount
-count_kept {T} =
-    record {
-      begins = λ call place hold is allowed. count_begun call place is;
-      steps = λ place c hold memory number next at free leads. count_stepped place next c hold memory number leads;
-      answers = λ place c hold action number at waits. count_answered place c hold action number at;
-      chooses = λ place c hold choice number at stands. at;
-    }
-  where
-    count_begun : (call : Call T) (place : RwWriterPlace) → rw_writer_begins call ≡ Some place → MatchOption (count_at place) (Unit {0}) (λ count. SawLast {T = T} Word.Counter [] count)
-    count_begun call place is = grind arith
-
-    count_answered : (place : RwWriterPlace) (c : PendingCall T) (hold : Option HoldKind) (action : WaitAction) (number : ℕ) → AtCount place c hold →
-        AtCount (rw_writer_answered place action) (record { call = c.call; own = event number (Act.Answered action) Then.GoesOn ∷ c.own }) hold
-    count_answered place c hold action number at = grind arith
-
-    count_stepped : (place next : RwWriterPlace) (c : PendingCall T) (hold : Option HoldKind) (memory : Word → ℕ) (number : ℕ) → place_after (after_at {T = T} place hold memory) ≡ Some next →
-        AtCount next (record { call = c.call; own = event number (act_at place hold memory) (outcome_of (after_at {T = T} place hold memory)) ∷ c.own }) hold
-    count_stepped place next c hold memory number leads = by_count (count_at next) refl
-      where
-        e : Event T
-        e = event number (act_at place hold memory) (outcome_of (after_at {T = T} place hold memory))
-
-        by_count : (count : Option ℕ) → count_at next ≡ count → MatchOption count (Unit {0}) (λ n. SawLast Word.Counter (e ∷ c.own) n)
-        by_count None is = tt
-        by_count (Some n) is = saw_now Word.Counter e c.own n (ap (sight_of Word.Counter) (count_led place next hold memory n leads is))
+count_kept = grind (arith, nat_tests, eqb-true, eqb-false)
 
 -- A wait at a condition variable is refused by the permits, and later by the mutex's word: each time by the word that it has just seen.
 

@@ -1,4 +1,6 @@
 -- Lines and words cut from the front, and numbers read digit by digit, are those of the definitions.
+use Rattle.std.proofs.lemmas.Bool.{eqb-true, eqb-false}
+use Rattle.std.proofs.lemmas.Bool.Decides.{nat_tests}
 use Rattle.text_lines.specs.Names.{is_ascii_digit}
 use Rattle.text_lines.proofs.Names.{◌≡◌, ◌≢◌, ℕ, suc, ◌+◌, ◌*◌, ◌-◌, ◌<◌, ◌≤◌, Bool, true, false, ◌&&◌, ◌==◌, eqb, ltb, cond, not, List, [], ◌∷◌, ◌++◌, length, get_or, take, drop, Option, Some, None, refl, sym, ap, subst, ◌∙◌, arith, add-one, drop-cons, le-ltb, lt-ltb}
 use Rattle.std.proofs.lemmas.List.{take_all, drop_all, length-drop}
@@ -16,28 +18,24 @@ from p [] = []
 from p (x ∷ xs) = cond (p x) (x ∷ xs) (from p xs)
 
 before_step : {A : Type 0} (b : Bool) (x : A) (xs : List A) (n : ℕ) (ys : List A) → take n xs ≡ ys → take (cond (not b) (1 + n) 0) (x ∷ xs) ≡ cond b [] (x ∷ ys)
-before_step true x xs n ys h = refl
-before_step {A} false x xs n ys h = let e : 1 + n ≡ suc n = omega arith in rw e (ap (λ (l : List A). x ∷ l) h)
+before_step b x xs n ys h1 = grind (arith, nat_tests, eqb-true, eqb-false)
 
 before_is : {A : Type 0} (p : A → Bool) (xs : List A) → take (position_or_len p xs) xs ≡ before p xs
 before_is p [] = refl
 before_is p (x ∷ xs) = before_step (p x) x xs (position_or_len p xs) (before p xs) (before_is p xs)
 
 from_step : {A : Type 0} (b : Bool) (x : A) (xs : List A) (n : ℕ) (ys : List A) → drop n xs ≡ ys → drop (cond (not b) (1 + n) 0) (x ∷ xs) ≡ cond b (x ∷ xs) ys
-from_step true x xs n ys h = refl
-from_step false x xs n ys h = let e : 1 + n ≡ suc n = omega arith in rw e h
+from_step b x xs n ys h1 = grind (arith, nat_tests, eqb-true, eqb-false)
 
 from_is : {A : Type 0} (p : A → Bool) (xs : List A) → drop (position_or_len p xs) xs ≡ from p xs
 from_is p [] = refl
 from_is p (x ∷ xs) = from_step (p x) x xs (position_or_len p xs) (from p xs) (from_is p xs)
 
 chosen_some : (b : Bool) (n i : ℕ) → cond b (Some n) None ≡ Some i → (b ≡ true) × (n ≡ i)
-chosen_some true n i e = (refl, cc)
-chosen_some false n i e = absurd cc
+chosen_some b n i h1 = grind (arith, nat_tests, eqb-true, eqb-false)
 
 chosen_none : (b : Bool) (n : ℕ) → cond b (Some n) None ≡ None → b ≡ false
-chosen_none true n e = absurd cc
-chosen_none false n e = refl
+chosen_none b n h1 = grind (arith, nat_tests, eqb-true, eqb-false)
 
 -- where the place of the first is known
 pub record CutsAt {A : Type 0} (p : A → Bool) (xs : List A) (i : ℕ) : Type 0 where
@@ -46,15 +44,12 @@ pub record CutsAt {A : Type 0} (p : A → Bool) (xs : List A) (i : ℕ) : Type 0
   pub within : i < length xs
 
 pub cut_at : {A : Type 0} (p : A → Bool) (xs : List A) (i : ℕ) → Some i ≡ position p xs → CutsAt p xs i
-cut_at {A} p xs i e =
-    let g = chosen_some (ltb (position_or_len p xs) (length xs)) (position_or_len p xs) i (sym e) in
-    subst (λ (n : ℕ). CutsAt p xs n) g.1 (record { front = before_is p xs; back = from_is p xs; within = grind (arith, g.0) })
+cut_at p xs i h1 = grind (arith, nat_tests, eqb-true, eqb-false, chosen_some, ltb, length, before_is, from_is)
 
 -- where there is none
 all_step : {A : Type 0} (b : Bool) (x : A) (xs front back : List A) (n : ℕ) → suc (length xs) ≤ cond (not b) (1 + n) 0 → (length xs ≤ n → (front ≡ xs) × (back ≡ []))
     → (cond b [] (x ∷ front) ≡ x ∷ xs) × (cond b (x ∷ xs) back ≡ [])
-all_step true x xs front back n h k = absurd (omega arith)
-all_step {A} false x xs front back n h k = let known = k (omega arith) in (ap (λ (l : List A). x ∷ l) known.0, known.1)
+all_step b x xs front back n h1 h2 = grind (arith, nat_tests, eqb-true, eqb-false)
 
 all_before : {A : Type 0} (p : A → Bool) (xs : List A) → length xs ≤ position_or_len p xs → (before p xs ≡ xs) × (from p xs ≡ [])
 all_before p [] h = (refl, refl)
@@ -64,8 +59,7 @@ pub uncut : {A : Type 0} (p : A → Bool) (xs : List A) → None ≡ position p 
 uncut p xs e = all_before p xs (let g = chosen_none (ltb (position_or_len p xs) (length xs)) (position_or_len p xs) (sym e) in grind (arith, g))
 
 head_step : {A : Type 0} (p : A → Bool) (b : Bool) (x : A) (xs rest : List A) (y : A) (ys : List A) → p x ≡ b → (rest ≡ y ∷ ys → p y ≡ true) → cond b (x ∷ xs) rest ≡ y ∷ ys → p y ≡ true
-head_step {A} p true x xs rest y ys e h k = let same : x ≡ y = cc in subst (λ (z : A). p z ≡ true) same e
-head_step p false x xs rest y ys e h k = h k
+head_step p b x xs rest y ys h1 h2 h3 = grind (arith, nat_tests, eqb-true, eqb-false)
 
 -- what stands first from there on passes
 pub from_head : {A : Type 0} (p : A → Bool) (xs : List A) (y : A) (ys : List A) → from p xs ≡ y ∷ ys → p y ≡ true
@@ -82,19 +76,14 @@ abbrev pub is_feed : ℕ → Bool
 is_feed byte = eqb byte 10
 
 from_tail : (b : Bool) (x : ℕ) (xs rest : List ℕ) → cond b (x ∷ xs) rest ≡ [] → rest ≡ []
-from_tail true x xs rest e = absurd cc
-from_tail false x xs rest e = e
+from_tail b x xs rest h1 = grind (arith, nat_tests, eqb-true, eqb-false)
 
 from_first : (b : Bool) (x : ℕ) (xs rest : List ℕ) → cond b (x ∷ xs) rest ≡ [] → b ≡ false
-from_first true x xs rest e = absurd cc
-from_first false x xs rest e = refl
+from_first b x xs rest h1 = grind (arith, nat_tests, eqb-true, eqb-false)
 
 last_step : (feed ret start : Bool) (byte : ℕ) (bytes rest : List ℕ) (lines : List (List ℕ)) (front : List ℕ) → cond feed (byte ∷ bytes) rest ≡ [] → start ≡ false
     → onto_line byte lines ≡ (byte ∷ front) ∷ [] → cond feed ([] ∷ lines) (cond (ret && start) lines (onto_line byte lines)) ≡ cond feed [] (byte ∷ front) ∷ []
-last_step true ret start byte bytes rest lines front e s h = absurd cc
-last_step false true true byte bytes rest lines front e s h = absurd cc
-last_step false true false byte bytes rest lines front e s h = h
-last_step false false start byte bytes rest lines front e s h = h
+last_step feed ret start byte bytes rest lines front h1 h2 h3 = grind (arith, nat_tests, eqb-true, eqb-false)
 
 -- a text without a line feed is one line
 pub one_line : (text : List ℕ) → text ≢ [] → from is_feed text ≡ [] → lines_of text ≡ before is_feed text ∷ []
@@ -108,16 +97,12 @@ one_line (byte ∷ next ∷ more) h e =
 
 ret_step : (ret start : Bool) (byte next : ℕ) (front : List ℕ) (lines after : List (List ℕ)) → eqb byte 13 ≡ ret → lines ≡ cut_line (cond start [] (next ∷ front)) ∷ after
     → cond (ret && start) lines (onto_line byte lines) ≡ cut_line (byte ∷ cond start [] (next ∷ front)) ∷ after
-ret_step true true byte next front lines after e h = rw e h
-ret_step true false byte next front lines after e h = rw h refl
-ret_step false true byte next front lines after e h = rw (e, h) refl
-ret_step false false byte next front lines after e h = rw h refl
+ret_step ret start byte next front lines after h1 h2 = grind (arith, nat_tests, eqb-true, eqb-false)
 
 feed_step : (feed : Bool) (byte f : ℕ) (bytes rest tail front : List ℕ) (inner : List (List ℕ)) → cond feed (byte ∷ bytes) tail ≡ f ∷ rest
     → (tail ≡ f ∷ rest → inner ≡ cut_line (byte ∷ front) ∷ lines_of rest)
     → cond feed ([] ∷ lines_of bytes) inner ≡ cut_line (cond feed [] (byte ∷ front)) ∷ lines_of rest
-feed_step true byte f bytes rest tail front inner e h = let same : bytes ≡ rest = cc in rw same refl
-feed_step false byte f bytes rest tail front inner e h = h e
+feed_step feed byte f bytes rest tail front inner h1 h2 = grind (arith, nat_tests, eqb-true, eqb-false)
 
 -- up to the first line feed stands the first line
 pub first_line : (text : List ℕ) (f : ℕ) (rest : List ℕ) → from is_feed text ≡ f ∷ rest → lines_of text ≡ cut_line (before is_feed text) ∷ lines_of rest
@@ -136,8 +121,7 @@ cut_more byte last [] = refl
 cut_more byte last (next ∷ front) = refl
 
 under_cond : (b : Bool) (byte : ℕ) (x y : List ℕ) → byte ∷ cond b x y ≡ cond b (byte ∷ x) (byte ∷ y)
-under_cond true byte x y = refl
-under_cond false byte x y = refl
+under_cond b byte x y = grind (arith, nat_tests, eqb-true, eqb-false)
 
 -- a carriage return at the end is cut off, and any other byte stays
 pub cut_last : (front : List ℕ) (last : ℕ) → cut_line (front ++ (last ∷ [])) ≡ cond (eqb last 13) front (front ++ (last ∷ []))
@@ -167,8 +151,7 @@ return_kept line front last e h = rw e (sym (rw (cut_last front last, h) refl))
 
 blanks_step : (b : Bool) (byte : ℕ) (bytes rest : List ℕ) → is_blank byte ≡ b → words_of bytes ≡ words_of rest
     → cond b (words_of bytes) (before_bytes byte bytes (words_of bytes)) ≡ words_of (cond (not b) (byte ∷ bytes) rest)
-blanks_step true byte bytes rest e h = h
-blanks_step false byte bytes rest e h = rw e refl
+blanks_step b byte bytes rest h1 h2 = grind (arith, nat_tests, eqb-true, eqb-false)
 
 pub skip_blanks : (line : List ℕ) → words_of line ≡ words_of (from (λ byte. not (is_blank byte)) line)
 skip_blanks [] = refl
@@ -176,8 +159,7 @@ skip_blanks (byte ∷ bytes) = blanks_step (is_blank byte) byte bytes (from (λ 
 
 word_step : (b : Bool) (byte next : ℕ) (more front rest : List ℕ) (words : List (List ℕ)) → (b ≡ false → words ≡ (next ∷ front) ∷ words_of rest) → words_of (next ∷ more) ≡ words
     → cond b ((byte ∷ []) ∷ words) (onto_word byte words) ≡ (byte ∷ cond b [] (next ∷ front)) ∷ words_of (cond b (next ∷ more) rest)
-word_step true byte next more front rest words h e = ap (λ (ws : List (List ℕ)). (byte ∷ []) ∷ ws) (sym e)
-word_step false byte next more front rest words h e = rw (h refl) refl
+word_step b byte next more front rest words h1 h2 = grind (arith, nat_tests, eqb-true, eqb-false)
 
 -- up to the first blank stands the first word
 pub first_word : (byte : ℕ) (bytes : List ℕ) → is_blank byte ≡ false → words_of (byte ∷ bytes) ≡ (byte ∷ before is_blank bytes) ∷ words_of (from is_blank bytes)
@@ -188,8 +170,7 @@ pub no_word : (line : List ℕ) → None ≡ position (λ byte. not (is_blank by
 no_word line e = let none = uncut (λ byte. not (is_blank byte)) line e in skip_blanks line ∙ ap words_of none.1
 
 not_true : (b : Bool) → not b ≡ true → b ≡ false
-not_true true e = absurd cc
-not_true false e = refl
+not_true b h1 = grind (arith, nat_tests, eqb-true, eqb-false)
 
 -- bytes that begin with no blank
 known_word : (words : List ℕ) → ((byte : ℕ) (bytes : List ℕ) → words ≡ byte ∷ bytes → not (is_blank byte) ≡ true) → 0 < length words → words_of words ≡ before is_blank words ∷ words_of (from is_blank words)
@@ -215,8 +196,7 @@ word_alone line words i same e f =
 -- Numbers.
 
 unless_digit : (bound : ℕ) (b : Bool) (read : Option ℕ) → fitting bound read ≡ None → fitting bound (cond b read None) ≡ None
-unless_digit bound true read h = h
-unless_digit bound false read h = refl
+unless_digit bound b read h1 = grind (arith, nat_tests, eqb-true, eqb-false)
 
 -- digits only make a number larger
 too_large : (bound n : ℕ) (bytes : List ℕ) → bound ≤ n → fitting bound (number_from n bytes) ≡ None
@@ -225,10 +205,7 @@ too_large bound n (byte ∷ bytes) h = unless_digit bound (is_ascii_digit byte) 
 
 -- the number with one digit more is too large
 pub digit_too_large : (bound n i : ℕ) (word : List ℕ) (read : Option ℕ) → i < length word → bound ≤ n * 10 + (get_or word i 0 - 48) → fitting bound (number_from n (drop i word)) ≡ read → read ≡ None
-digit_too_large bound n i word read within h e =
-    let next : drop i word ≡ get_or word i 0 ∷ drop (i + 1) word = rw (add-one, drop-cons word i 0) refl in
-    let byte = get_or word i 0 in
-    sym e ∙ rw next (unless_digit bound (is_ascii_digit byte) (number_from (n * 10 + (byte - 48)) (drop (i + 1) word)) (too_large bound (n * 10 + (byte - 48)) (drop (i + 1) word) h))
+digit_too_large bound n i word read h1 h2 h3 = grind (arith, nat_tests, eqb-true, eqb-false, drop, get_or, add-one, drop-cons, unless_digit, too_large)
 
 -- all digits are read
 pub digits_end : (bound n i : ℕ) (word : List ℕ) (read : Option ℕ) → n < bound → length word ≤ i → fitting bound (number_from n (drop i word)) ≡ read → Some n ≡ read

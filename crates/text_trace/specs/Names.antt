@@ -3,16 +3,8 @@ pub use Rattle.std.specs.Fmt.{decimal}
 pub use Rattle.std.specs.List.{flat_map, take-map}
 pub use Rattle.std.specs.Prelude.{ℕ, zero, suc, ◌+◌, true, false, List, [], ◌∷◌, ◌++◌, Option, Some, None, codes, string_bytes, ◌≡◌, Bool, ◌-◌, ◌^◌, min, ◌&&◌, map, take, ◌==◌, max, if◌then◌else◌, length, replicate, Result, Ok, Err}
 pub use Rattle.std.specs.Str.{bytes_eq}
-pub use Rattle.model_events.specs.Arithmetic.{Arithmetic}
-pub use Rattle.model_events.specs.Past.{hold_of, PendingCall, Hold, same_word, word_after, is_release, hold_taken, with_hold, without, call_of, holds_of, hold_among}
-pub use Rattle.model_events.specs.Runs.{after}
-pub use Rattle.model_events.specs.declared.WaitAction.{WaitAction}
-pub use Rattle.model_events.specs.declared.event.Act.{Act}
-pub use Rattle.model_events.specs.declared.event.Event.{Event}
-pub use Rattle.model_events.specs.declared.event.Object.{Object}
-pub use Rattle.model_events.specs.declared.event.Wake.{Wake}
-pub use Rattle.model_events.specs.declared.event.Word.{Word}
-pub use Rattle.model_events.specs.declared.hold.HoldKind.{HoldKind}
+pub use Rattle.model_events.specs.Exports.{Arithmetic, hold_of, PendingCall, Hold, same_word, word_after, is_release, hold_taken, with_hold, without, call_of, holds_of, hold_among, after}
+pub use Rattle.model_events.specs.declared.{WaitAction.WaitAction, event.Act.Act, event.Event.Event, event.Object.Object, event.Wake.Wake, event.Word.Word, hold.HoldKind.HoldKind}
 pub use Rattle.text_lines.specs.Lexer.{lines_of}
 pub use Rattle.text_lines.specs.Numerals.{Numerals}
 pub use Rattle.text_lines.specs.declared.fault.FaultyLine.{FaultyLine}

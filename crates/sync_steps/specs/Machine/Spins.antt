@@ -1,5 +1,5 @@
 -- Spins: how often a step leads to its own place but for the spins, and the place after so many: a row for each primitive.
-use Rattle.sync_steps.specs.Names.{ℕ, ◌+◌, ◌-◌, ◌^◌, ◌==◌, min, if◌then◌else◌, Option, unwrap_or, Patience, MutexPlace, is_free, SpinPlace, SemaphorePlace, BarrierPlace, epoch_of, RwReaderPlace, lets_readers_in_free, RwWriterPlace, lets_readers_in, lets_writer_in, lets_mark, CondvarPlace, OncePlace, LazyPlace}
+use Rattle.sync_steps.specs.Names.{ℕ, ◌+◌, ◌-◌, ◌^◌, ◌==◌, min, Option, unwrap_or, Patience, MutexPlace, is_free, SpinPlace, SemaphorePlace, BarrierPlace, epoch_of, RwReaderPlace, lets_readers_in_free, RwWriterPlace, lets_readers_in, lets_writer_in, lets_mark, CondvarPlace, OncePlace, LazyPlace, if◌then◌else◌}
 use Rattle.sync_steps.specs.declared.steps.place.Place.{Place}
 
 -- How often a step whose party was told this leads to the same place with one more spin, if it makes one after the other.

@@ -22,7 +22,7 @@ use model_spin::SpinPlace;
 use std::alloc::AllocError;
 
 /// Where a party is in its call: a place of its object's primitive.
-#[derive(Copy)]
+#[derive(Copy, PartialEq, Eq)]
 pub enum Place<T> {
     Mutex(MutexPlace),
     Spin(SpinPlace),
@@ -55,7 +55,7 @@ pub enum Closure {
 }
 
 /// A call under way: where it is, and whether it stands at a closure.
-#[derive(Copy)]
+#[derive(Copy, PartialEq, Eq)]
 pub struct Doing<T> {
     pub call: Call<T>,
     pub place: Place<T>,
@@ -73,7 +73,7 @@ impl<T: Copy> Clone for Doing<T> {
 }
 
 /// A party: the call that it has under way, and what it holds.
-#[derive(Copy)]
+#[derive(Copy, PartialEq, Eq)]
 pub struct Party<T> {
     pub doing: Option<Doing<T>>,
     pub hold: Option<HoldKind>,

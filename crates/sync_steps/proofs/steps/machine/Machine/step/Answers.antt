@@ -1,18 +1,18 @@
 use Rattle.sync_steps.specs.Names.{Input}
-use Rattle.sync_steps.proofs.Names.{◌<◌, length, subst, arith, rules}
+use Rattle.sync_steps.proofs.Names.{◌≡◌, ℕ, ◌<◌, length, arith, rules}
 use Rattle.sync_steps.specs.Machine.{Configuration}
 use Rattle.sync_steps.proofs.Stands.{turns_step, turns_headline, turns_fault}
 use Rattle.sync_steps.proofs.steps.machine.Machine.step.Goals as goal
+
+-- a party below the number that the machine has in place
+there : {T : Type 0} {own now : Configuration T} {party : ℕ} → own ≡ now → party < length own.parties → party < length now.parties
+there same below = rw same at below
 
 -- a beginning
 
 pub returns-in-Begin-clause-next : goal.returns-in-Begin-clause-next
 returns-in-Begin-clause-next g c =
-    let own = c.self.inside in
-    let was : Configuration g.row.T.Denot = record { object = own.object; parties = own.parties.items; words = own.words; failed = own.failed } in
-    let below : c.args.party < length was.parties = omega arith in
-    let within = subst (λ (m : Configuration g.row.T.Denot). c.args.party < length m.parties) c.self.view_is below in
-    turns_step g.T.AtomicInteger.arithmetic c.args.party c.args.input (Input.Begin c.in-Begin.call) c.args.self.now c.begin.new.self c.begin.result within c.read_values.ensures c.in-Begin.is c.begin.ensures.ok
+    turns_step g.T.AtomicInteger.arithmetic c.args.party c.args.input (Input.Begin c.in-Begin.call) c.args.self.now c.begin.new.self c.begin.result (there c.self.view_is (omega arith)) c.read_values.ensures c.in-Begin.is c.begin.ensures.ok
 
 pub returns-in-Begin-clause-headline : goal.returns-in-Begin-clause-headline
 returns-in-Begin-clause-headline g c =
@@ -20,21 +20,13 @@ returns-in-Begin-clause-headline g c =
 
 pub returns-in-Begin-clause-fault : goal.returns-in-Begin-clause-fault
 returns-in-Begin-clause-fault g c =
-    let own = c.self.inside in
-    let was : Configuration g.row.T.Denot = record { object = own.object; parties = own.parties.items; words = own.words; failed = own.failed } in
-    let below : c.args.party < length was.parties = omega arith in
-    let within = subst (λ (m : Configuration g.row.T.Denot). c.args.party < length m.parties) c.self.view_is below in
-    turns_fault g.T.AtomicInteger.arithmetic c.args.party c.args.input (Input.Begin c.in-Begin.call) c.args.self.now c.begin.result within c.in-Begin.is c.begin.ensures.fault
+    turns_fault g.T.AtomicInteger.arithmetic c.args.party c.args.input (Input.Begin c.in-Begin.call) c.args.self.now c.begin.result (there c.self.view_is (omega arith)) c.in-Begin.is c.begin.ensures.fault
 
 -- a step
 
 pub returns-in-Go-clause-next : goal.returns-in-Go-clause-next
 returns-in-Go-clause-next g c =
-    let own = c.self.inside in
-    let was : Configuration g.row.T.Denot = record { object = own.object; parties = own.parties.items; words = own.words; failed = own.failed } in
-    let below : c.args.party < length was.parties = omega arith in
-    let within = subst (λ (m : Configuration g.row.T.Denot). c.args.party < length m.parties) c.self.view_is below in
-    turns_step g.T.AtomicInteger.arithmetic c.args.party c.args.input Input.Go c.args.self.now c.go.new.self c.go.result within c.read_values.ensures c.in-Go.is c.go.ensures.ok
+    turns_step g.T.AtomicInteger.arithmetic c.args.party c.args.input Input.Go c.args.self.now c.go.new.self c.go.result (there c.self.view_is (omega arith)) c.read_values.ensures c.in-Go.is c.go.ensures.ok
 
 pub returns-in-Go-clause-headline : goal.returns-in-Go-clause-headline
 returns-in-Go-clause-headline g c =
@@ -42,21 +34,13 @@ returns-in-Go-clause-headline g c =
 
 pub returns-in-Go-clause-fault : goal.returns-in-Go-clause-fault
 returns-in-Go-clause-fault g c =
-    let own = c.self.inside in
-    let was : Configuration g.row.T.Denot = record { object = own.object; parties = own.parties.items; words = own.words; failed = own.failed } in
-    let below : c.args.party < length was.parties = omega arith in
-    let within = subst (λ (m : Configuration g.row.T.Denot). c.args.party < length m.parties) c.self.view_is below in
-    turns_fault g.T.AtomicInteger.arithmetic c.args.party c.args.input Input.Go c.args.self.now c.go.result within c.in-Go.is c.go.ensures.fault
+    turns_fault g.T.AtomicInteger.arithmetic c.args.party c.args.input Input.Go c.args.self.now c.go.result (there c.self.view_is (omega arith)) c.in-Go.is c.go.ensures.fault
 
 -- an answer of the wait closure
 
 pub returns-in-Answer-clause-next : goal.returns-in-Answer-clause-next
 returns-in-Answer-clause-next g c =
-    let own = c.self.inside in
-    let was : Configuration g.row.T.Denot = record { object = own.object; parties = own.parties.items; words = own.words; failed = own.failed } in
-    let below : c.args.party < length was.parties = omega arith in
-    let within = subst (λ (m : Configuration g.row.T.Denot). c.args.party < length m.parties) c.self.view_is below in
-    turns_step g.T.AtomicInteger.arithmetic c.args.party c.args.input (Input.Answer c.in-Answer.action) c.args.self.now c.answer.new.self c.answer.result within c.read_values.ensures c.in-Answer.is c.answer.ensures.ok
+    turns_step g.T.AtomicInteger.arithmetic c.args.party c.args.input (Input.Answer c.in-Answer.action) c.args.self.now c.answer.new.self c.answer.result (there c.self.view_is (omega arith)) c.read_values.ensures c.in-Answer.is c.answer.ensures.ok
 
 pub returns-in-Answer-clause-headline : goal.returns-in-Answer-clause-headline
 returns-in-Answer-clause-headline g c =
@@ -64,21 +48,13 @@ returns-in-Answer-clause-headline g c =
 
 pub returns-in-Answer-clause-fault : goal.returns-in-Answer-clause-fault
 returns-in-Answer-clause-fault g c =
-    let own = c.self.inside in
-    let was : Configuration g.row.T.Denot = record { object = own.object; parties = own.parties.items; words = own.words; failed = own.failed } in
-    let below : c.args.party < length was.parties = omega arith in
-    let within = subst (λ (m : Configuration g.row.T.Denot). c.args.party < length m.parties) c.self.view_is below in
-    turns_fault g.T.AtomicInteger.arithmetic c.args.party c.args.input (Input.Answer c.in-Answer.action) c.args.self.now c.answer.result within c.in-Answer.is c.answer.ensures.fault
+    turns_fault g.T.AtomicInteger.arithmetic c.args.party c.args.input (Input.Answer c.in-Answer.action) c.args.self.now c.answer.result (there c.self.view_is (omega arith)) c.in-Answer.is c.answer.ensures.fault
 
 -- an answer of the choice closure
 
 pub returns-in-Choose-clause-next : goal.returns-in-Choose-clause-next
 returns-in-Choose-clause-next g c =
-    let own = c.self.inside in
-    let was : Configuration g.row.T.Denot = record { object = own.object; parties = own.parties.items; words = own.words; failed = own.failed } in
-    let below : c.args.party < length was.parties = omega arith in
-    let within = subst (λ (m : Configuration g.row.T.Denot). c.args.party < length m.parties) c.self.view_is below in
-    turns_step g.T.AtomicInteger.arithmetic c.args.party c.args.input (Input.Choose c.in-Choose.choice) c.args.self.now c.choose.new.self c.choose.result within c.read_values.ensures c.in-Choose.is c.choose.ensures.ok
+    turns_step g.T.AtomicInteger.arithmetic c.args.party c.args.input (Input.Choose c.in-Choose.choice) c.args.self.now c.choose.new.self c.choose.result (there c.self.view_is (omega arith)) c.read_values.ensures c.in-Choose.is c.choose.ensures.ok
 
 pub returns-in-Choose-clause-headline : goal.returns-in-Choose-clause-headline
 returns-in-Choose-clause-headline g c =
@@ -86,11 +62,7 @@ returns-in-Choose-clause-headline g c =
 
 pub returns-in-Choose-clause-fault : goal.returns-in-Choose-clause-fault
 returns-in-Choose-clause-fault g c =
-    let own = c.self.inside in
-    let was : Configuration g.row.T.Denot = record { object = own.object; parties = own.parties.items; words = own.words; failed = own.failed } in
-    let below : c.args.party < length was.parties = omega arith in
-    let within = subst (λ (m : Configuration g.row.T.Denot). c.args.party < length m.parties) c.self.view_is below in
-    turns_fault g.T.AtomicInteger.arithmetic c.args.party c.args.input (Input.Choose c.in-Choose.choice) c.args.self.now c.choose.result within c.in-Choose.is c.choose.ensures.fault
+    turns_fault g.T.AtomicInteger.arithmetic c.args.party c.args.input (Input.Choose c.in-Choose.choice) c.args.self.now c.choose.result (there c.self.view_is (omega arith)) c.in-Choose.is c.choose.ensures.fault
 
 pub returns-then-party-len-clause-err : goal.returns-then-party-len-clause-err
 returns-then-party-len-clause-err g c = search rules
