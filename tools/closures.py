@@ -15,7 +15,7 @@ import sys
 LITERAL = re.compile(r"(?:^|[(,=&]\s*|\bmove )\|[^|]*\|")
 CALLED = re.compile(r"(?<![\w.:])(?:running_passes::wake|wait|wakeup|wake|wake_one|wake_all|mtx_wait|mtx_wake_one|leave|act|f|make|choose)\)?\(|::call\w*\(")
 # A step on a table or on words that is no turn's: a turn's names the rule or the object first.
-STEP = re.compile(r"(?:\.|::)(?:load|look|store|swap|fetch_\w+|compare_exchange\w*|\w+_new_seat)::<(?!_,)")
+STEP = re.compile(r"(?:\.|::)(?:(?:load|store|swap|fetch_\w+|compare_exchange\w*|\w+_new_seat)::<(?!_,)|learn\()")
 SAID = re.compile(r"(?<!fn )\bspend\(|\bBy::<|::<(?:\w+, )*Brand\b|^impl\b.*\bWay<")
 COMING = re.compile(r"^ghost coming = \{ (?:λ \w+\. )?(\w+)")
 # What the running types share or hand in, which has no call of a model.

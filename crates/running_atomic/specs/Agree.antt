@@ -60,10 +60,6 @@ module _ {X : Type 0} where
         (λ also. let second : met same (Is y) (Is z) ≡ Is y = ap (λ (u : X). met same (Is y) (Is u)) (sym also) ∙ met_is y in sym (ap (met same (Is x)) second ∙ met_else x y not))
         (λ apart. sym (ap (met same (Is x)) (met_else y z apart))))
 
-    pub merge_none : (xs : List (Place X)) → merge same xs [] ≡ xs
-    merge_none [] = refl
-    merge_none (x ∷ xs) = refl
-
     pub merge_idem : (xs : List (Place X)) → merge same xs xs ≡ xs
     merge_idem [] = refl
     merge_idem (x ∷ xs) = λ i. met_idem x i ∷ merge_idem xs i

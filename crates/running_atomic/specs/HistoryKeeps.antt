@@ -6,8 +6,8 @@ use Rattle.running_atomic.specs.declared.history.AtomicAct.{AtomicAct}
 use Rattle.running_atomic.specs.declared.history.Place.{Place}
 use Rattle.running_atomic.specs.declared.history.Place.TheVariants.{Unknown, Is, Torn}
 use Rattle.running_atomic.specs.declared.history.Heard.{Heard}
-use Rattle.running_atomic.specs.Agree.{merge, met_is, met_else, by_same, merge_none, merge_idem, merge_comm, merge_assoc}
-use Rattle.running_atomic.specs.History.{heard, both_heard, same_act, acts_tell}
+use Rattle.running_atomic.specs.Agree.{merge, met_is, met_else, by_same, merge_idem, merge_comm, merge_assoc}
+use Rattle.running_atomic.specs.History.{both_heard, same_act, acts_tell}
 use Rattle.running_atomic.specs.AtomicRule.{prefix, known, each_once, acts_in, act_in, history_in}
 
 abbrev pub StartsWith : {A : Type 0} → List A → List A → Type 0
@@ -38,10 +38,6 @@ known_more (x ∷ h) l = λ i. met_is same_act acts_tell x i ∷ known_more h l 
 pub grows : (h l : List AtomicAct) (v r : Places) → M v r ≡ known h → M (known (h ++ l)) r ≡ known (h ++ l)
 grows h l v r is = let g : Places = known (h ++ l) in
     ap (λ (x : Places). M x r) (sym (known_more h l)) ∙ merge_assoc same_act acts_tell g (known h) r ∙ ap (M g) (absorbs v r (known h) is) ∙ known_more h l
-
--- and what the first knows
-pub keeps_more : (h l : List AtomicAct) (v r : Places) → M v r ≡ known h → M (known (h ++ l)) v ≡ known (h ++ l)
-keeps_more h l v r is = grows h l r v (merge_comm same_act acts_tell r v ∙ is)
 
 abbrev IsTorn : Place AtomicAct → Type 0
 IsTorn Unknown = ⊥
@@ -111,13 +107,6 @@ module _ {T : Type 0} (z : Arithmetic T) where
   -- the history that all know begins with what one of them knows
   pub begins : (h : List AtomicAct) (v r : Heard) → (both_heard v r).seen ≡ known h → StartsWith (acts_in z h) (history_in z v)
   begins h v r is = let t = starts h v.seen (absorbs_first v.seen r.seen (known h) is) in (acts_in z t.0, ap (acts_in z) t.1 ∙ acts_append (prefix v.seen) t.0)
-
-  pub begins_also : (h : List AtomicAct) (v r : Heard) → (both_heard v r).seen ≡ known h → StartsWith (acts_in z h) (history_in z r)
-  begins_also h v r is = let t = starts h r.seen (absorbs v.seen r.seen (known h) is) in (acts_in z t.0, ap (acts_in z) t.1 ∙ acts_append (prefix r.seen) t.0)
-
-  -- where nobody else knows anything, it is what the one knows
-  pub alone : (h : List AtomicAct) (v r : Heard) → (both_heard v r).seen ≡ known h → r ≡ heard [] [] → history_in z v ≡ acts_in z h
-  alone h v r is none = seen_known v h (sym (merge_none same_act acts_tell v.seen) ∙ ap (λ (t : Heard). M v.seen t.seen) (sym none) ∙ is)
 
   pub marks_in : (h : List AtomicAct) (v r : List ℕ) → both_counts v r ≡ each_once h → (history : List (RegisterAct T)) → history ≡ acts_in z h → AreMarks v history
   marks_in h v r is history same x = let t = marks h v r is x in (t.0, λ le. t.1 (subst (λ n. n ≤ x) (ap length same ∙ acts_length h) le))

@@ -1,6 +1,6 @@
 -- What a step makes of what a pass saw and knows, and what the run says of it.
-use Rattle.running_barrier.specs.Names.{sum, dite, ℕ_discrete, Word, Intent, epoch_of, count_of, arrivals_in, full_rounds, CountsArrivals, barrier_table, View, IsWhole, total, stale, view_of, looked, missed, left_view, right_view, joined_view, sum_of, view, parties_of, tally_of, counted, Coming, MayStep, none_played, both_played, core_played, played_add_up, IsShare, Acted, Rounds, one_more, both_counts, in_round, no_rounds, both_rounds, known_rounds, reaching, opens_by, arrived, rounds_after, word_of, AreRounds, AreRoundsIn, barrier_model}
-use Rattle.running_barrier.proofs.Names.{◌≡◌, ◌≢◌, ℕ, ◌+◌, ◌-◌, ◌*◌, ◌/◌, ◌%◌, ◌^◌, ◌<◌, ◌≤◌, List, [], ◌∷◌, Some, sym, refl, ap, ◌∙◌, subst, arith, zero-div}
+use Rattle.running_barrier.specs.Names.{sum, dite, ℕ_discrete, Word, Intent, count_of, arrivals_in, full_rounds, CountsArrivals, barrier_table, View, IsWhole, total, stale, view_of, missed, left_view, right_view, joined_view, sum_of, view, parties_of, tally_of, counted, Coming, MayStep, none_played, both_played, core_played, played_add_up, IsShare, Acted, Rounds, both_counts, in_round, no_rounds, both_rounds, known_rounds, reaching, arrived, rounds_after, AreRounds, AreRoundsIn, barrier_model}
+use Rattle.running_barrier.proofs.Names.{◌≡◌, ◌≢◌, ℕ, ◌+◌, ◌-◌, ◌*◌, ◌/◌, ◌%◌, ◌^◌, ◌<◌, List, [], ◌∷◌, Some, sym, refl, ap, ◌∙◌, subst, arith, zero-div}
 use Rattle.std.proofs.lemmas.Nat.{div-add-mod', mod_below}
 use Rattle.model_events.specs.Past.{word_in}
 use Rattle.model_events.specs.Rows.{carried_out, value_told}

@@ -5,11 +5,11 @@ use mathlib.Core.Option as maybe
 use prog.Atomic.{either}
 use Rattle.running_model.specs.Models.{Model}
 use Rattle.running_model.specs.declared.played.Played.{Played}
-use Rattle.running_model.specs.Slots.{Slot, Free, Mine, Torn, both, all, slot_at, only, all_of, Parties, no_parties, both_parties}
-use Rattle.running_model.specs.SlotLaws.{no_parties_add, slot_of_all}
+use Rattle.running_model.specs.Slots.{Slot, Free, Mine, Torn, both, all, slot_at, only, all_of, Parties, both_parties}
+use Rattle.running_model.specs.SlotLaws.{slot_of_all}
 use Rattle.running_model.specs.Words.{AllHold, AreApart, IsStepOn, IsOnNoWord, effect}
 use Rattle.running_model.specs.Plays.{fresh_call, Coming, IsPlayed, act_at, Leads, Led, IsStepAt, MayStep, Went, HasStepped, WentBy, ComesBy, events_of}
-use Rattle.running_model.specs.Passes.{played, none_played, both_played, counted_in, PlaysAndCounts, HasNeeds, GoesOnByActs, StaysOnNoWord, SameOnNoWord, SteppedByAct, Learned}
+use Rattle.running_model.specs.Passes.{played, none_played, both_played, PlaysAndCounts, HasNeeds, GoesOnByActs, StaysOnNoWord, SameOnNoWord, SteppedByAct, Learned}
 use Rattle.running_model.proofs.Words.{hold_at, carried_here}
 use Rattle.running_model.proofs.Same.{same_coming}
 use Rattle.running_model.proofs.Ready.{AllMatch, ready, still, came, step_event, steps}

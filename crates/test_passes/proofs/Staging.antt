@@ -1,7 +1,6 @@
 -- The steps of the tests' counter are those of its table.
-use Rattle.test_passes.specs.Names.{Word, Call, Intent, u64_arithmetic, View, Updates, Parties, all_of, Beginning, ComesBy, MayStep}
+use Rattle.test_passes.specs.Names.{Word, Call, Intent, u64_arithmetic, Parties, all_of, Beginning, ComesBy, MayStep}
 use Rattle.test_passes.proofs.Names.{◌≡◌, ℕ, refl, List, [], ◌∷◌, Some, None}
-use mathlib.Core.Option as maybe
 use Rattle.model_events.specs.Moves.{hold_fault, CallValues}
 use Rattle.running_model.specs.Words.{IsStepOn}
 use Rattle.test_passes.specs.Staging.{counter_begins, counter_table, counter_model}
@@ -23,7 +22,3 @@ may call intent p is free values on = record {
   intends = refl;
   on = on;
 }
-
-pub counts_nothing : (v : View (Unit {0})) (i : ℕ) (f : ℕ → ℕ) →
-    Updates tt (λ (_ _ : Unit {0}). tt) (λ (_ : List ℕ) (_ : List (maybe.Option (Unit {0}))) (_ : Unit {0}). Unit {0}) v i f (λ (_ : ℕ) (_ : View (Unit {0})). Unit {0})
-counts_nothing v i f = record { may = λ found homes rest is alone fits. (v, refl, tt, tt) }

@@ -13,8 +13,7 @@ ghost use Rattle.test_passes.specs.Staging.{counter_model};
 use model_events::row::Intent;
 use running_model::turn::{Called, begin_new};
 use running_model::{Counts, CountsByActs, Played, Script, Stage};
-use running_passes::{Deed, Pass, Rule, Tally};
-use std::alloc::Global;
+use running_passes::{Pass, Rule, Tally};
 use std::marker::{Model, PhantomData};
 use std::test::Fail;
 
@@ -76,7 +75,7 @@ impl Counts<(), u64> for Nothing {
 }
 
 /// So an act makes nothing of it, and of what the pass saw.
-impl CountsByActs<(), CounterScript, Intent<u64>, u64> for Nothing {
+impl<M: Script<(), Intent<u64>, u64>> CountsByActs<(), M, Intent<u64>, u64> for Nothing {
     ghost use Rattle.std.proofs.Common.{refl};
 
     ghost free = { λ _ _ _ _ _ _. tt };
@@ -90,13 +89,6 @@ impl CountsByActs<(), CounterScript, Intent<u64>, u64> for Nothing {
     ghost needs = { λ _ _. Unit {0} };
 
     ghost goes_on = { λ _ _ _ _ _ _ _ _ _ _ _ _. tt };
-}
-
-/// A step that tells nothing beside.
-struct Untold;
-
-impl Deed<(), Nothing> for Untold {
-    ghost tells = { λ _ _ _ _ _ _. Unit {0} };
 }
 
 type Counter = Stage<(), CounterScript, Intent<u64>, u64, Nothing>;
@@ -153,6 +145,7 @@ fn turn_to_load(counter: &Counter, pass: &mut CounterPass) -> u64
     requires own { IsPassOf counter.now pass.old }
     requires one_word { count_of counter.now ≡ 1 }
     ensures same { IsSamePass pass.old pass.new }
+    ensures looked { HasCalled counter_model calls.Value (answers.Number result) None (parties_of pass.old) (parties_of pass.new) }
 {
     let begun = begin_new::<Looking, CounterPass>(pass);
     let (found, made) = begun.load(counter, 0);
@@ -207,88 +200,14 @@ fn turn_to_exchange(counter: &Counter, pass: &mut CounterPass) -> u64
     found
 }
 
-/// A call of one step, a load with a deed.
-fn deed_to_load(counter: &Counter, pass: &mut CounterPass) -> u64
-    requires own { IsPassOf counter.now pass.old }
-    requires one_word { count_of counter.now ≡ 1 }
-    ensures same { IsSamePass pass.old pass.new }
-    ensures looked { HasCalled counter_model calls.Value (answers.Number result) None (parties_of pass.old) (parties_of pass.new) }
-{
-    let begun = begin_new::<Looking, CounterPass>(pass);
-    let (found, made) = begun.load_by::<(), Global, Untold>(counter, 0);
-    let _pass = made.end(counter);
-    found
-}
-
-/// A call of one step, an add with a deed.
-fn deed_to_add(counter: &Counter, pass: &mut CounterPass) -> u64
-    requires own { IsPassOf counter.now pass.old }
-    requires one_word { count_of counter.now ≡ 1 }
-    ensures same { IsSamePass pass.old pass.new }
-{
-    let begun = begin_new::<AddingSeven, CounterPass>(pass);
-    let (found, made) = begun.add_by::<(), Global, Untold>(counter, 0, 7);
-    let _pass = made.end(counter);
-    found
-}
-
-/// A call of one step, a subtract with a deed.
-fn deed_to_subtract(counter: &Counter, pass: &mut CounterPass) -> u64
-    requires own { IsPassOf counter.now pass.old }
-    requires one_word { count_of counter.now ≡ 1 }
-    ensures same { IsSamePass pass.old pass.new }
-{
-    let begun = begin_new::<TakingOne, CounterPass>(pass);
-    let (found, made) = begun.subtract_by::<(), Global, Untold>(counter, 0, 1);
-    let _pass = made.end(counter);
-    found
-}
-
-/// A call of one step, a store with a deed.
-fn deed_to_store(counter: &Counter, pass: &mut CounterPass)
-    requires own { IsPassOf counter.now pass.old }
-    requires one_word { count_of counter.now ≡ 1 }
-    ensures same { IsSamePass pass.old pass.new }
-{
-    let begun = begin_new::<Clearing, CounterPass>(pass);
-    let made = begun.store_by::<(), Global, Untold>(counter, 0, 0);
-    let _pass = made.end(counter);
-}
-
-/// A call of one step, an exchange with a deed.
-fn deed_to_exchange(counter: &Counter, pass: &mut CounterPass) -> u64
-    requires own { IsPassOf counter.now pass.old }
-    requires one_word { count_of counter.now ≡ 1 }
-    ensures same { IsSamePass pass.old pass.new }
-{
-    let begun = begin_new::<Trying, CounterPass>(pass);
-    let (found, made) = begun.exchange_by::<(), Global, Untold>(counter, 0, 0, 1);
-    let _pass = made.end(counter);
-    found
-}
-
-/// A load that is no step: what the word is, while the pass has made nothing more.
-fn peek(counter: &Counter, pass: &mut CounterPass) -> u64
+/// A load that is no step, while the pass makes nothing more.
+fn learn(counter: &Counter, pass: &mut CounterPass)
     requires own { IsPassOf counter.now pass.old }
     requires one_word { count_of counter.now ≡ 1 }
     ensures same { IsSamePass pass.old pass.new }
     ensures stayed { parties_of pass.new ≡ parties_of pass.old }
 {
-    counter.look::<Untold>(pass, 0)
-}
-
-#[test]
-fn a_counter_plays_its_model(rt: HostRuntime) -> Result<(), Fail> {
-    let (counter, mut pass) = Stage::new(rt.alloc(), &[0], &())?;
-    assert_eq!(rt; deed_to_add(&counter, &mut pass), 0);
-    assert_eq!(rt; deed_to_subtract(&counter, &mut pass), 7);
-    assert_eq!(rt; deed_to_load(&counter, &mut pass), 6);
-    assert_eq!(rt; peek(&counter, &mut pass), 6);
-    deed_to_store(&counter, &mut pass);
-    assert_eq!(rt; deed_to_exchange(&counter, &mut pass), 0);
-    assert_eq!(rt; peek(&counter, &mut pass), 1);
-    assert_eq!(rt; counter.close(pass, 0), 1);
-    Ok(())
+    counter.learn(pass, 0);
 }
 
 #[test]
@@ -297,6 +216,7 @@ fn a_turn_makes_each_step(rt: HostRuntime) -> Result<(), Fail> {
     assert_eq!(rt; turn_to_add(&counter, &mut pass), 0);
     assert_eq!(rt; turn_to_subtract(&counter, &mut pass), 7);
     assert_eq!(rt; turn_to_load(&counter, &mut pass), 6);
+    learn(&counter, &mut pass);
     assert_eq!(rt; turn_to_exchange(&counter, &mut pass), 6);
     turn_to_store(&counter, &mut pass);
     assert_eq!(rt; turn_to_exchange(&counter, &mut pass), 0);
@@ -345,7 +265,7 @@ fn run_and_store(ending: &Ending, pass: &mut EndingPass) -> u64
     ensures played { HasCalled ending_model calls.CallOnce answers.Done None (parties_of pass.old) (parties_of pass.new) }
 {
     let begun = begin_new::<Calling, EndingPass>(pass);
-    let (_, looked) = begun.load_by::<(), Global, Untold>(ending, 0);
+    let (_, looked) = begun.load(ending, 0);
     let (given, ended) = looked.run(
         ending,
         &mut (),
@@ -353,7 +273,7 @@ fn run_and_store(ending: &Ending, pass: &mut EndingPass) -> u64
             ensures { result ≡ 5 }
         { 5 },
     );
-    let stored = ended.store_by::<(), Global, Untold>(ending, 0, 7);
+    let stored = ended.store(ending, 0, 7);
     let _pass = stored.end(ending);
     given
 }
