@@ -1,6 +1,6 @@
 -- A lock for one holder: an object whose locking exchange puts 1 in the place of 0, and whose release stores 0.
 use Rattle.std.proofs.lemmas.Bool.Decides.{nat_tests}
-use Rattle.std.proofs.Common.{◌≡◌, ◌≢◌, ℕ, ◌<◌, ◌==◌, refl, ◌∙◌, true, cond, is_some, List, [], ◌∷◌, Option, Some, ◌⊎◌, inl, ◌↔◌, arith}
+use Rattle.std.proofs.Common.{◌≡◌, ◌≢◌, ℕ, refl, true, cond, is_some, List, [], ◌∷◌, Option, Some, ◌⊎◌, inl, ◌↔◌, arith}
 use Rattle.std.proofs.lemmas.Bool.{eqb-true, eqb-false}
 use Rattle.model_events.specs.Exports.{Arithmetic, carried_out, Table, Hold, PendingCall, call_of, holds_of, hold_of, hold_among, word_in, word_after, without, with_hold, is_release, hold_taken, Move, stage_of, IsPast, IsExclusive, IsLocked}
 use Rattle.model_events.specs.Types.{Word, Act, Event, HoldKind, Intent}

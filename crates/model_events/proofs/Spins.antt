@@ -1,6 +1,6 @@
 -- How a waiting call counts its spins, and knows whether it keeps on asking.
 use Rattle.std.proofs.lemmas.Bool.{eqb-true, eqb-false}
-use Rattle.std.proofs.Common.{◌≡◌, ◌∙◌, ℕ, ◌+◌, ◌≤◌, refl, Bool, true, false, ◌&&◌, List, [], ◌∷◌, Some, None, arith}
+use Rattle.std.proofs.Common.{◌≡◌, ℕ, ◌+◌, ◌≤◌, refl, Bool, true, false, ◌&&◌, List, [], ◌∷◌, Some, None, arith}
 use Rattle.std.specs.Prelude.{nat_lt, MatchBool}
 use Rattle.std.proofs.lemmas.Bool.Decides.{nat_tests}
 use Rattle.model_events.specs.Exports.{is_continue, answered, refused, within, outcome_of, place_after, event, answer_fault, keeps_asking, spins_in, is_abort, stands_at_wait, is_refusal}

@@ -1,7 +1,7 @@
 -- What an event is, at any table: by its input, with the form of its input, and telling what the memory holds.
 use Rattle.std.proofs.lemmas.Bool.{eqb-true, eqb-false}
 use Rattle.std.proofs.lemmas.Bool.Decides.{nat_tests}
-use Rattle.std.proofs.Common.{◌≡◌, refl, ◌∙◌, ℕ, true, ◌&&◌, List, [], ◌∷◌, Option, Some, arith}
+use Rattle.std.proofs.Common.{◌≡◌, refl, ◌∙◌, ℕ, true, List, [], ◌∷◌, Option, Some, arith}
 use Rattle.model_events.specs.Exports.{Arithmetic, carried_out, value_told, place_after, Table, PendingCall, word_after, call_of, call_going_on, hold_of, word_in, HasForm, Move, stage_of, stage_after, step_at, move_of, is_step, IsPast, IsTold, TellsMemory, is_apart, Lacks}
 use Rattle.model_events.specs.Types.{WaitAction, Word, Call, Act, Event, Input, Then, HoldKind, Intent}
 

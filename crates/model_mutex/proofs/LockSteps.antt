@@ -50,4 +50,3 @@ pub lock_leads :
     {T : Type 0} (word : Word) (patience : Patience) (own : List (Event T)) (number w : ℕ) → HasTriedSo patience own →
     LockLeads own number w (Act.Exchange word 0 1 w (w == 0)) (mutex_after (MutexPlace.Lock patience) (Some w))
 lock_leads word patience own number w tried = lock_leads_by word patience own number w (w == 0) patience.keep (nat_lt patience.spins 10000) tried refl refl refl
-

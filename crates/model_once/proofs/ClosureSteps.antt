@@ -44,4 +44,3 @@ quiet_led place own e h1 h2 h3 = grind (arith, nat_tests, eqb-true, eqb-false)
 -- how a look leaves a call
 abbrev pub looked : {T : Type 0} → Then T → ℕ → Then T
 looked complete w = cond (w == 2) complete Then.GoesOn
-

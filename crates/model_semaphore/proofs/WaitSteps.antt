@@ -38,4 +38,3 @@ pub wait_leads :
 wait_leads word place own number memory h1 = grind (arith, nat_tests, eqb-true, eqb-false)
 
 -- what a step does to the word: nothing, or it takes a permit where the word is not 0
-
