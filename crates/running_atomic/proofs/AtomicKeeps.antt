@@ -1,6 +1,6 @@
 -- What a step makes of what a pass saw and counts, and what the run says of it.
-use Rattle.running_atomic.specs.Names.{not, MatchBool, HoldKind, Word, Call, Answer, Act, Event, Intent, Arithmetic, IsValue, IsClosed, AtomicPlace, word_in, carried_out, value_told, View, IsWhole, looked, missed, wrote, view_of, view, Pass, Coming, Going, MayStep, IsShare, Acted, Learned, ToldAt, parties_of, counts_of, counted, counted_in, Parties, one_more, both_counts, Held, Free, Reading, Writing, Torn, both_held, Locks, atomic_table, RegisterAct, plain, update, ends_at_look, acts_of_run, register_after, value_after, answer_to, after_acts, choice_for}
-use Rattle.running_atomic.proofs.Names.{◌≡◌, ◌≢◌, ℕ, ◌+◌, ◌-◌, ◌%◌, ◌^◌, ◌<◌, ◌==◌, Bool, true, false, cond, List, [], ◌∷◌, ◌++◌, Option, Some, None, length, sym, refl, ap, ◌∙◌, subst, arith, ne_eqb, eqb-true, eqb-false, register_by_acts}
+use Rattle.running_atomic.specs.Names.{not, MatchBool, HoldKind, Word, Call, Act, Event, Intent, Arithmetic, AtomicPlace, word_in, carried_out, value_told, View, looked, missed, view_of, view, Pass, Coming, Going, MayStep, IsShare, Acted, Learned, parties_of, counts_of, counted, counted_in, one_more, both_counts, Held, Free, Reading, Writing, Torn, both_held, Locks, atomic_table, RegisterAct, plain, update, ends_at_look, acts_of_run, register_after, value_after, answer_to, after_acts}
+use Rattle.running_atomic.proofs.Names.{◌≡◌, ℕ, ◌+◌, ◌-◌, ◌^◌, ◌<◌, ◌==◌, Bool, true, false, cond, List, [], ◌∷◌, ◌++◌, Some, None, length, sym, refl, ap, ◌∙◌, subst, arith, ne_eqb, eqb-true, eqb-false, register_by_acts}
 use Rattle.running_model.proofs.Steps.{found_there}
 use Rattle.running_atomic.specs.declared.history.AtomicTally.{AtomicTally}
 use Rattle.running_atomic.specs.declared.history.Content.{Content}
@@ -89,10 +89,20 @@ module _ {T : Type 0} (z : Arithmetic T) (k : T) where
       x = data_in (word_in (atomic_table z k) acted.share.past)
 
       by_test : (b : Bool) → (found == from) ≡ b → (x : Content) × (b : Bool) × ((found == from) ≡ b) × (counted q ≡ cond b (now_holds (cond (to == 2 ^ 64 - 1) (Writing x x) (Reading 0 x)) (counted p)) (missed (counted p) from found))
-      by_test true test = (x, true, test, told_there way 0 (λ w. Intent.Exchange w from to) found p may Word.State may.named q acted
-          ∙ ap (λ (b : Bool). view_of (counted p).part (lock_sights {T = T} (Act.Exchange Word.State from to found b) (counted p).sights) (tally_after z k acted.share.past may.place (Act.Exchange Word.State from to found b) may.call (counts_of p))) test)
-      by_test false test = (x, false, test, told_there way 0 (λ w. Intent.Exchange w from to) found p may Word.State may.named q acted
-          ∙ ap (λ (b : Bool). view_of (counted p).part (lock_sights {T = T} (Act.Exchange Word.State from to found b) (counted p).sights) (tally_after z k acted.share.past may.place (Act.Exchange Word.State from to found b) may.call (counts_of p))) test)
+      by_test true test = (
+        x,
+        true,
+        test,
+        told_there way 0 (λ w. Intent.Exchange w from to) found p may Word.State may.named q acted
+            ∙ ap (λ (b : Bool). view_of (counted p).part (lock_sights {T = T} (Act.Exchange Word.State from to found b) (counted p).sights) (tally_after z k acted.share.past may.place (Act.Exchange Word.State from to found b) may.call (counts_of p))) test,
+      )
+      by_test false test = (
+        x,
+        false,
+        test,
+        told_there way 0 (λ w. Intent.Exchange w from to) found p may Word.State may.named q acted
+            ∙ ap (λ (b : Bool). view_of (counted p).part (lock_sights {T = T} (Act.Exchange Word.State from to found b) (counted p).sights) (tally_after z k acted.share.past may.place (Act.Exchange Word.State from to found b) may.call (counts_of p))) test,
+      )
 
   pub read_enters : (way : Coming T) (from to found : ℕ) (p q : P) → MayStep (atomic_model z k) atomic_names way 0 (λ w. Intent.Exchange w from to) (parties_of p) → from < 2 ^ 64 - 2 → to ≡ from + 1 → Did way found p q → EntersRead from (counted p) found (counted q)
   read_enters way from to found p q may room next acted = let made = exchanged way from to found p q may acted in by_made made.0 made.1 made.2 made.3
@@ -184,9 +194,11 @@ module _ {T : Type 0} (z : Arithmetic T) (k : T) where
   -- a load of the high word, after which the call goes on, or by which it acts
 
   pub reads_high : (found : ℕ) (p q : P) → MayStep (atomic_model z k) atomic_names Going 2 (λ w. Intent.Load w) (parties_of p) → IsOn (counts_of p).hold → IsAtLook z k (parties_of p) → Did Going found p q → ReadsHigh (counted p) found (counted q)
-  reads_high found p q may on looks acted =
-      (acted.told looks.call (AtomicPlace.High looks.call looks.low) looks.at.hold looks.at.done looks.at.at
-      ∙ ap (λ (b : Bool). view_of (counted p).part (counted p).sights (atomic_tally (counts_of p).hold (heard_if acted.share.past b (counts_of p).heard))) (looks.goes_on (z.of_words looks.low found)), high_found Going found p may on acted.share)
+  reads_high found p q may on looks acted = (
+    acted.told looks.call (AtomicPlace.High looks.call looks.low) looks.at.hold looks.at.done looks.at.at
+        ∙ ap (λ (b : Bool). view_of (counted p).part (counted p).sights (atomic_tally (counts_of p).hold (heard_if acted.share.past b (counts_of p).heard))) (looks.goes_on (z.of_words looks.low found)),
+    high_found Going found p may on acted.share,
+  )
     where
       heard_if : List (Event T) → Bool → Heard → Heard
       heard_if past b t = heard_after z (history_of_run z past) (cond b (Some (plain looks.call)) None) t
@@ -196,20 +208,23 @@ module _ {T : Type 0} (z : Arithmetic T) (k : T) where
       let s = acted.share in
       let x = reading_is (counts_of p).hold on in
       let told : counted q ≡ view_of (counted p).part (counted p).sights (atomic_tally (counts_of p).hold (more (history_of_run z s.past) AtomicAct.Load (counts_of p).heard)) = acted.told Call.Load (AtomicPlace.High Call.Load low) at.hold at.done at.at in
-      let is_on : IsOn (counts_of p).hold = subst IsOn (sym x.1) refl in
-      (ap (λ (v : View B). v.tally.hold) told,
-      subst (λ (h : Held Content). IfHeld h (λ c. (found ≡ c.high) × ActsAt z k AtomicAct.Load c (counted p) (counted q))) (sym x.1)
-      (subst (λ (h : Held Content). IfHeld h (λ c. found ≡ c.high)) x.1 (high_found Going found p may is_on s),
-      acts_so Going found p s q (plain Call.Load) (value_of z x.0) (reads_register Going found p s x.0 x.1) refl (ap (λ (v : View B). v.tally.heard) told) (ap (λ (v : View B). v.part) told)))
+      let is_on : IsOn (counts_of p).hold = subst IsOn (sym x.1) refl in (
+        ap (λ (v : View B). v.tally.hold) told,
+        subst (λ (h : Held Content). IfHeld h (λ c. (found ≡ c.high) × ActsAt z k AtomicAct.Load c (counted p) (counted q))) (sym x.1) (
+          subst (λ (h : Held Content). IfHeld h (λ c. found ≡ c.high)) x.1 (high_found Going found p may is_on s),
+          acts_so Going found p s q (plain Call.Load) (value_of z x.0) (reads_register Going found p s x.0 x.1) refl (ap (λ (v : View B). v.tally.heard) told) (ap (λ (v : View B). v.part) told),
+        ),
+      )
 
   pub ends_unchanged : (way : Coming T) (found : ℕ) (p q : P) → IsSettled (counts_of p).hold → ComesAgain z k way (parties_of p) → Did way found p q → EndsUnchanged z k (AtomicAct.FetchUpdate None) (counted p) (counted q)
   ends_unchanged way found p q on again acted =
       let s = acted.share in
       let x = settled_is (counts_of p).hold on in
-      let told : counted q ≡ view_of (counted p).part (counted p).sights (atomic_tally (counts_of p).hold (more (history_of_run z s.past) (AtomicAct.FetchUpdate None) (counts_of p).heard)) = acted.told Call.FetchUpdate (AtomicPlace.Again again.old) (Some HoldKind.Write) again.done again.comes in
-      (ap (λ (v : View B). v.tally.hold) told,
-      subst (λ (h : Held Content). IfWriting h (λ c old. ActsAt z k (AtomicAct.FetchUpdate None) old (counted p) (counted q))) (sym x.1)
-      (acts_so way found p s q (update None) (value_of z x.0) (writes_register way found p s x.0 x.0 x.1).0 refl (ap (λ (v : View B). v.tally.heard) told) (ap (λ (v : View B). v.part) told)))
+      let told : counted q ≡ view_of (counted p).part (counted p).sights (atomic_tally (counts_of p).hold (more (history_of_run z s.past) (AtomicAct.FetchUpdate None) (counts_of p).heard)) = acted.told Call.FetchUpdate (AtomicPlace.Again again.old) (Some HoldKind.Write) again.done again.comes in (
+        ap (λ (v : View B). v.tally.hold) told,
+        subst (λ (h : Held Content). IfWriting h (λ c old. ActsAt z k (AtomicAct.FetchUpdate None) old (counted p) (counted q))) (sym x.1)
+            (acts_so way found p s q (update None) (value_of z x.0) (writes_register way found p s x.0 x.0 x.1).0 refl (ap (λ (v : View B). v.tally.heard) told) (ap (λ (v : View B). v.part) told)),
+      )
 
   -- by the value that is compared: where it is another, the act is made
   pub compares_high : (a : AtomicAct) (current : T) (found : ℕ) (p q : P) → MayStep (atomic_model z k) atomic_names Going 2 (λ w. Intent.Load w) (parties_of p) → IsSettled (counts_of p).hold → IsWritten z (act_in z a) → IsComparing z k a current (counts_of p).hold (parties_of p) →
@@ -245,11 +260,12 @@ module _ {T : Type 0} (z : Arithmetic T) (k : T) where
       by_same : (b : Bool) → z.same (value_of z x) current ≡ b → MatchBool b (counted q ≡ counted p) (EndsUnchanged z k a (counted p) (counted q))
       by_same true same = told false (ap not same)
       by_same false same =
-          let made = told true (ap not same) in
-          (ap (λ (v : View B). v.tally.hold) made,
-          subst (λ (h : Held Content). IfWriting h (λ c old. ActsAt z k a old (counted p) (counted q))) (sym is)
-          (acts_so Going found p s q (act_in z a) (value_of z x) (writes_register Going found p s x x is).0 valid
-          (ap (λ (v : View B). v.tally.heard) made ∙ ap (λ (r : RegisterAct T). more (history_of_run z s.past) (written z r) (counts_of p).heard) (sym comparing.is_act)) (ap (λ (v : View B). v.part) made)))
+          let made = told true (ap not same) in (
+            ap (λ (v : View B). v.tally.hold) made,
+            subst (λ (h : Held Content). IfWriting h (λ c old. ActsAt z k a old (counted p) (counted q))) (sym is)
+                (acts_so Going found p s q (act_in z a) (value_of z x) (writes_register Going found p s x x is).0 valid
+                (ap (λ (v : View B). v.tally.heard) made ∙ ap (λ (r : RegisterAct T). more (history_of_run z s.past) (written z r) (counts_of p).heard) (sym comparing.is_act)) (ap (λ (v : View B). v.part) made)),
+          )
 
   -- the act of a call that stores
   stored_is : (a : AtomicAct) (new : T) → IsStoring a → ((x : Content) → a ≡ AtomicAct.FetchUpdate (Some x) → value_of z x ≡ new) → stored z (act_in z a).call new ≡ act_in z a
@@ -268,9 +284,10 @@ module _ {T : Type 0} (z : Arithmetic T) (k : T) where
       let makes : value_after z (act_in z a) (value_of z u) ≡ z.of_words low new = subst (λ (h : Held Content). IfWriting h (λ c old. value_after z (act_in z a) (value_of z old) ≡ z.of_words c.low new)) w.2 right ∙ ap (λ (c : Content). z.of_words c.low new) there.1 in
       let told = acted.told (act_in z a).call (AtomicPlace.PutHigh new puts.answer) (Some HoldKind.Write) puts.done puts.at in
       let act_is : stored z (act_in z a).call (z.of_words low new) ≡ act_in z a = stored_is a (z.of_words low new) stores (λ c is. ap (λ (b : AtomicAct). value_after z (act_in z b) (value_of z u)) (sym is) ∙ makes) in
-      subst (λ (h : Held Content). IfWriting h (λ c found. ((counts_of q).hold ≡ Writing (content c.low new) (content c.low new)) × ActsAt z k a found (counted p) (counted q))) (sym w.2)
-      (ap (λ (v : View B). v.tally.hold) told ∙ ap (λ (h : Held Content). held_after {T = T} (data_in (word_in (atomic_table z k) s.past)) (Act.Store Word.High new) h) w.2,
-      acts_so Going new p s q (act_in z a) (value_of z u) there.0 valid (ap (λ (v : View B). v.tally.heard) told ∙ ap (λ (r : RegisterAct T). more (history_of_run z s.past) (written z r) (counts_of p).heard) act_is) (ap (λ (v : View B). v.part) told))
+      subst (λ (h : Held Content). IfWriting h (λ c found. ((counts_of q).hold ≡ Writing (content c.low new) (content c.low new)) × ActsAt z k a found (counted p) (counted q))) (sym w.2) (
+        ap (λ (v : View B). v.tally.hold) told ∙ ap (λ (h : Held Content). held_after {T = T} (data_in (word_in (atomic_table z k) s.past)) (Act.Store Word.High new) h) w.2,
+        acts_so Going new p s q (act_in z a) (value_of z u) there.0 valid (ap (λ (v : View B). v.tally.heard) told ∙ ap (λ (r : RegisterAct T). more (history_of_run z s.past) (written z r) (counts_of p).heard) act_is) (ap (λ (v : View B). v.part) told),
+      )
 
   -- a load by which a pass knows all of the history
   pub settles : (v w : View (PlayedAtomic T)) → Learned (atomic_model z k) both_tallies known_tally (IsRegister z k) v w → Settles z k (counted_in v) (counted_in w)

@@ -1,6 +1,6 @@
 -- What the passes of an atomic count and know follows the run.
 use Rattle.running_atomic.specs.Names.{not, is_some, HoldKind, Word, Call, Answer, Act, Event, Arithmetic, IsValue, IsClosed, PendingCall, call_of, hold_of, word_in, word_after, stage_of, CallValues, IsPast, carried_out, AtomicPlace, atomic_table, atomic_begins, atomic_intent, atomic_grant, release, RegisterAct, Outcome, plain, update, compared, act_of, acted, value_after, after_acts, choice_of, choice_for, act_by, acts_at, acts_of_run, answer_of, is_last, ends_at_look, register_after, Held, Free, Reading, Writing, Torn, both_held, Locks, IsOnNoWord, on_no_word, StaysOnNoWord, SameOnNoWord, GoesOnByActs}
-use Rattle.std.proofs.Common.{◌≡◌, ◌≢◌, ℕ, ◌+◌, ◌-◌, ◌%◌, ◌^◌, ◌<◌, ◌==◌, Bool, true, false, cond, List, [], ◌∷◌, ◌++◌, Option, Some, None, refl, sym, ap, subst, ◌∙◌, arith}
+use Rattle.std.proofs.Common.{◌≡◌, ℕ, ◌+◌, ◌-◌, ◌%◌, ◌^◌, ◌<◌, ◌==◌, Bool, true, false, cond, List, [], ◌∷◌, ◌++◌, Option, Some, None, refl, sym, ap, subst, ◌∙◌, arith}
 use Rattle.std.proofs.lemmas.Bool.{eqb-true, eqb-false, ne_eqb}
 use Rattle.std.proofs.lemmas.Bool.Decides.{nat_tests}
 use Rattle.std.proofs.lemmas.List.{append-nil}
@@ -14,7 +14,7 @@ use Rattle.running_atomic.specs.declared.history.AtomicAct.{AtomicAct}
 use Rattle.running_atomic.specs.declared.history.Heard.{Heard}
 use Rattle.running_atomic.specs.History.{content, both_heard, both_tallies, atomic_tally, no_acts, same_content, tells_same_content}
 use Rattle.running_atomic.specs.AtomicModel.{atomic_model}
-use Rattle.running_atomic.specs.AtomicRule.{value_of, act_in, acts_in, written, all_written, history_of_run, known, each_once, register_of, IsReading, IsWriting, IsSettled, data_in, put_low, put_high, held_after, looked_at, stored, acted_by, more, heard_after, tally_after, tally_needs, IsRegister}
+use Rattle.running_atomic.specs.AtomicRule.{value_of, act_in, acts_in, written, all_written, history_of_run, known, each_once, register_of, IsReading, IsWriting, IsSettled, data_in, put_low, put_high, held_after, looked_at, stored, acted_by, heard_after, tally_after, tally_needs, IsRegister}
 use Rattle.running_atomic.specs.LockKeeps.{enters_read, enters_write, leaves_read, writes}
 use Rattle.running_atomic.specs.HistoryKeeps.{grows, grows_own, acts_append}
 
@@ -71,9 +71,10 @@ module _ {T : Type 0} (z : Arithmetic T) where
     lets_write Free on is = absurd on
     lets_write (Reading m x) on is = absurd on
     lets_write (Writing x u) on is =
-        let t = writes same_content tells_same_content n d x u rest is.0 in
-        (subst (Locks 0 d) (sym t.0) (record { word_is = omega arith; room = omega arith; knows = tt }),
-        ap (λ (g : Held Content). value_of z (register_of g d)) t.0 ∙ ap (value_of z) (sym t.2 ∙ on) ∙ sym (ap (λ (g : Held Content). value_of z (register_of (with (Writing x u) g) d)) t.0) ∙ is.1)
+        let t = writes same_content tells_same_content n d x u rest is.0 in (
+          subst (Locks 0 d) (sym t.0) (record { word_is = omega arith; room = omega arith; knows = tt }),
+          ap (λ (g : Held Content). value_of z (register_of g d)) t.0 ∙ ap (value_of z) (sym t.2 ∙ on) ∙ sym (ap (λ (g : Held Content). value_of z (register_of (with (Writing x u) g) d)) t.0) ∙ is.1,
+        )
     lets_write Torn on is = absurd on
 
     stores_low : (low : ℕ) (h : Held Content) → IsWriting h → IsLocked memory value (with h rest) → IsLocked (after (Act.Store Word.Low low) memory) value (with (put_low low h) rest)
@@ -83,9 +84,10 @@ module _ {T : Type 0} (z : Arithmetic T) where
         let t = writes same_content tells_same_content n d x u rest is.0 in
         let new : Content = content low (memory Word.High) in
         let h : Held Content = Writing (content low x.high) u in
-        let lone : with h rest ≡ h = ap (with h) t.0 in
-        (subst (Locks n new) (sym lone) (record { word_is = t.1; room = omega arith; knows = ap (λ (c : Content). content low c.high) t.2 }),
-        ap (λ (g : Held Content). value_of z (register_of g new)) lone ∙ sym (ap (λ (g : Held Content). value_of z (register_of (with (Writing x u) g) d)) t.0) ∙ is.1)
+        let lone : with h rest ≡ h = ap (with h) t.0 in (
+          subst (Locks n new) (sym lone) (record { word_is = t.1; room = omega arith; knows = ap (λ (c : Content). content low c.high) t.2 }),
+          ap (λ (g : Held Content). value_of z (register_of g new)) lone ∙ sym (ap (λ (g : Held Content). value_of z (register_of (with (Writing x u) g) d)) t.0) ∙ is.1,
+        )
     stores_low low Torn on is = absurd on
 
     stores_high : (high : ℕ) (h : Held Content) → IsWriting h → IsLocked memory value (with h rest) → IsLocked (after (Act.Store Word.High high) memory) (z.of_words (memory Word.Low) high) (with (put_high high h) rest)
@@ -95,9 +97,10 @@ module _ {T : Type 0} (z : Arithmetic T) where
         let t = writes same_content tells_same_content n d x u rest is.0 in
         let new : Content = content (memory Word.Low) high in
         let h : Held Content = Writing (content x.low high) (content x.low high) in
-        let lone : with h rest ≡ h = ap (with h) t.0 in
-        (subst (Locks n new) (sym lone) (record { word_is = t.1; room = omega arith; knows = ap (λ (c : Content). content c.low high) t.2 }),
-        ap (λ (g : Held Content). value_of z (register_of g new)) lone ∙ ap (λ (c : Content). z.of_words c.low high) t.2)
+        let lone : with h rest ≡ h = ap (with h) t.0 in (
+          subst (Locks n new) (sym lone) (record { word_is = t.1; room = omega arith; knows = ap (λ (c : Content). content c.low high) t.2 }),
+          ap (λ (g : Held Content). value_of z (register_of g new)) lone ∙ ap (λ (c : Content). z.of_words c.low high) t.2,
+        )
     stores_high high Torn on is = absurd on
 
   another_value : (memory : Word → ℕ) (v w : T) (h : Held Content) → w ≡ v → IsLocked memory v h → IsLocked memory w h
@@ -125,10 +128,11 @@ module _ {T : Type 0} (z : Arithmetic T) where
     hears None t rest valid is = subst (λ (acts : List (RegisterAct T)). IsHeard acts (both_heard t rest)) (sym (append-nil (acts_of_run z past))) is
     hears (Some a) t rest valid is =
         let h : List AtomicAct = history_of_run z past in
-        let longer : all_written z (acts_of_run z past ++ a ∷ []) ≡ h ++ written z a ∷ [] = written_more (acts_of_run z past) (a ∷ []) in
-        (grows h (written z a ∷ []) t.seen rest.seen is.0 ∙ ap known (sym longer),
-        grows_own h (written z a) t.own rest.own is.1 ∙ ap each_once (sym longer),
-        ap (acts_in z) longer ∙ acts_append z h (written z a ∷ []) ∙ (λ i. is.2 i ++ valid i ∷ []))
+        let longer : all_written z (acts_of_run z past ++ a ∷ []) ≡ h ++ written z a ∷ [] = written_more (acts_of_run z past) (a ∷ []) in (
+          grows h (written z a ∷ []) t.seen rest.seen is.0 ∙ ap known (sym longer),
+          grows_own h (written z a) t.own rest.own is.1 ∙ ap each_once (sym longer),
+          ap (acts_in z) longer ∙ acts_append z h (written z a ∷ []) ∙ (λ i. is.2 i ++ valid i ∷ []),
+        )
 
 -- The values of a call under way are values of its type, and it takes the lock.
 

@@ -1,6 +1,6 @@
 -- What is known of the history, and which acts are own, as it grows.
 use Rattle.running_atomic.specs.Names.{Arithmetic, count_at, one_more, both_counts, RegisterAct}
-use Rattle.std.proofs.Common.{◌≡◌, ℕ, zero, suc, ◌+◌, ◌≤◌, List, [], ◌∷◌, ◌++◌, length, sym, refl, ap, ◌∙◌, subst, arith}
+use Rattle.std.proofs.Common.{◌≡◌, ℕ, zero, suc, ◌≤◌, List, [], ◌∷◌, ◌++◌, length, sym, refl, ap, ◌∙◌, subst, arith}
 use Rattle.running_tallies.specs.CountLaws.{in_both, more_in_both}
 use Rattle.running_atomic.specs.declared.history.AtomicAct.{AtomicAct}
 use Rattle.running_atomic.specs.declared.history.Place.{Place}

@@ -365,8 +365,8 @@ pub fn open_rounds_are_full()
     ensures { OpenRoundsAreFull }
 {}
 
-/// Whenever the rule of a barrier holds, its passes are the parties of a run of the model, and all together arrived as often as calls did in
-/// it. Says so of the rule alone, and does nothing.
+/// Whenever the rule of a barrier holds, its passes are the parties of a run of the model, and all together arrived in each round as often as
+/// calls did in it. Says so of the rule alone, and does nothing.
 #[tactic(auto, using(crate::proofs::BarrierKeeps::arrivals_are_of_a_run))]
 pub fn arrivals_are_of_a_run()
     ensures { ArrivalsAreOfARun }

@@ -1,7 +1,7 @@
 -- What a step makes of what a pass saw and knows, and what the run says of it.
 use Rattle.model_events.specs.Past.{word_in}
 use Rattle.model_events.specs.Rows.{carried_out, value_told}
-use Rattle.running_once.specs.Names.{MatchBool, Word, Intent, MayStep, Coming, View, total, sum_of, once_table, none_played, both_played, core_played, played_add_up, IsSamePass, view, IsShare, Told, part_of, sights_of, counts_of, parties_of, counted}
+use Rattle.running_once.specs.Names.{MatchBool, Word, Intent, MayStep, Coming, View, total, sum_of, once_table, none_played, both_played, core_played, played_add_up, IsSamePass, view, IsShare, Told, sights_of, counts_of, parties_of, counted}
 use Rattle.running_once.proofs.Names.{◌≡◌, ◌≢◌, ℕ, ◌+◌, ◌==◌, Bool, true, false, ◌||◌, List, [], ◌∷◌, refl, ap, sym, subst, ◌∙◌, arith}
 use Rattle.std.specs.Prelude.{Some}
 use Rattle.running_passes.specs.Sights.{HasLooked}

@@ -82,7 +82,7 @@ impl<M: Script<(), Intent<u64>, u64>> CountsByActs<(), M, Intent<u64>, u64> for 
 
     ghost sees = { λ _ sights. sights };
 
-    ghost after = { λ _ _ _ _ _. tt };
+    ghost after = { λ _ _ _ _ _ _. tt };
 
     ghost same = { λ _ _ _ _ _ _ _ _. refl };
 
