@@ -1,5 +1,5 @@
 //! The running condition variable.
-ghost use Rattle.std.specs.Prelude.{◌≡◌, IfOk};
+ghost use Rattle.std.specs.Prelude.{◌≡◌, false, IfOk};
 ghost use Rattle.running_passes.specs.Passes.{IsSamePass};
 ghost use Rattle.running_mutex.specs.MutexShown.{IsMutexPass, HasStayed as HasLockedAtMost, pass_of, borrow_of};
 ghost use Rattle.running_mutex.specs.CondShown.{IsCondPass, HasStayed};
@@ -15,11 +15,11 @@ use iceoryx2_pal_concurrency_sync::{
 };
 use std::alloc::{AllocError, Global};
 use std::sync::Wait;
-use std::sync::atomic::{AtomicBool, AtomicU64, Ordering};
+use std::sync::atomic::{AtomicBool, Ordering};
 use std::test::Fail;
 use std::thread;
 use std::thread::Threads;
-use test_signal::{Gathering, Meeting, Notes};
+use test_signal::{Gathering, Meeting};
 
 /// A new condition variable, and two parts of its pass.
 pub(super) fn in_two_parts(
@@ -45,47 +45,143 @@ fn notify_gathered(cond: &ConditionVariable, pass: &mut CondPass) -> (u64, u64)
     gathering.gathered()
 }
 
-/// What the closures of a wait were told that all answer `Abort`, that of the mutex as one that acts, if it gave up with the mutex.
-fn wait_and_abort<R: Wait>(
+/// Locks, waits with these closures, and unlocks. Whether the wait took a permit, where it has the mutex.
+fn wait_to<
+    R: Wait,
+    K: Fn(&WaitWord),
+    W: Fn(&WaitWord, &u64) -> WaitAction,
+    M: Fn(&WaitWord, &u64) -> WaitAction,
+>(
     rt: &R,
     cond: &ConditionVariable,
     pass: &mut CondPass,
     mutex: &Mutex,
     mtx_pass: &mut MutexPass,
-) -> Option<(u64, u64)>
+    mtx_wake_one: K,
+    wait: W,
+    mtx_wait: M,
+) -> Option<bool>
     requires own { IsCondPass cond.now pass.old × IsMutexPass mutex.now mtx_pass.old }
+    requires may { K.IsAlwaysCallable mtx_wake_one × W.IsAlwaysCallable wait × M.IsAlwaysCallable mtx_wait }
 {
-    let gathering = Gathering::new();
     let WaitResult::Success(hold) = Mutex::try_lock(mtx_pass, mutex) else {
         return None;
     };
-    let answer = ConditionVariable::wait(
+    let answer = ConditionVariable::wait(hold, cond, rt, pass, mutex, mtx_wake_one, wait, mtx_wait);
+    match answer {
+        CondResult::Success(hold) => {
+            mutex.unlock(hold, wake_nobody);
+            Some(true)
+        }
+        CondResult::Interrupted(Some(hold)) => {
+            mutex.unlock(hold, wake_nobody);
+            Some(false)
+        }
+        CondResult::Interrupted(None) => None,
+    }
+}
+
+/// The same by `wait_held`.
+pub(super) fn wait_once<
+    R: Wait,
+    K: Fn(&WaitWord),
+    W: Fn(&WaitWord, &u64) -> WaitAction,
+    M: Fn(&WaitWord, &u64) -> WaitAction,
+>(
+    rt: &R,
+    cond: &ConditionVariable,
+    pass: &mut CondPass,
+    mutex: &Mutex,
+    mtx_pass: &mut MutexPass,
+    mtx_wake_one: K,
+    wait: W,
+    mtx_wait: M,
+) -> Option<bool>
+    requires own { IsCondPass cond.now pass.old × IsMutexPass mutex.now mtx_pass.old }
+    requires may { K.IsAlwaysCallable mtx_wake_one × W.IsAlwaysCallable wait × M.IsAlwaysCallable mtx_wait }
+    ensures stayed { HasStayed pass.old pass.new }
+    ensures same { IsSamePass mtx_pass.old mtx_pass.new }
+{
+    let WaitResult::Success(hold) = Mutex::try_lock(mtx_pass, mutex) else {
+        return None;
+    };
+    let answer = ConditionVariable::wait_held(
         hold,
         cond,
         rt,
         pass,
         mutex,
-        |word| gathering.wake_one(word.load()),
-        |_, seen| {
-            gathering.wait(*seen);
-            WaitAction::Abort
-        },
-        |_, seen| {
-            gathering.act(*seen);
-            WaitAction::Abort
-        },
+        mtx_wake_one,
+        wait,
+        mtx_wait,
     );
     match answer {
-        CondResult::Interrupted(Some(hold)) => {
+        WaitResult::Success(Woken::Signalled(hold)) => {
             mutex.unlock(hold, wake_nobody);
-            Some(gathering.gathered())
+            Some(true)
         }
-        CondResult::Success(hold) => {
+        WaitResult::Success(Woken::Unsignalled(hold)) => {
             mutex.unlock(hold, wake_nobody);
-            None
+            Some(false)
         }
-        CondResult::Interrupted(None) => None,
+        WaitResult::Interrupted => None,
     }
+}
+
+/// Where a wait lets the other thread go on, and waits for it.
+#[derive(Clone, Copy)]
+enum HeldUp {
+    Nowhere,
+    InWake,
+    /// In each wait closure: that of the wait answers so then, and that of the mutex `Abort`.
+    InWaits(WaitAction),
+}
+
+/// Waits so, by `wait` or by `wait_held`; a wait closure that is not held up answers `Abort`. What it came to, and its closures with what
+/// each word held and they were told, that of the mutex as one that acts.
+fn wait_gathered<R: Wait>(
+    rt: &R,
+    cond: &ConditionVariable,
+    pass: &mut CondPass,
+    mutex: &Mutex,
+    mtx_pass: &mut MutexPass,
+    meeting: &Meeting,
+    held_up: HeldUp,
+    is_plain: bool,
+) -> (Option<bool>, (u64, u64))
+    requires own { IsCondPass cond.now pass.old × IsMutexPass mutex.now mtx_pass.old }
+    ensures stayed { is_plain ≡ false → HasStayed pass.old pass.new }
+    ensures same { is_plain ≡ false → IsSamePass mtx_pass.old mtx_pass.new }
+{
+    let gathering = Gathering::new();
+    let wake = |word: &WaitWord| {
+        gathering.wake_one(word.load());
+        if let HeldUp::InWake = held_up {
+            let _ = meeting.meet() && meeting.meet();
+        }
+    };
+    let wait = |word: &WaitWord, seen: &u64| {
+        gathering.wait(word.load());
+        gathering.wait(*seen);
+        match held_up {
+            HeldUp::InWaits(action) if meeting.meet() && meeting.meet() => action,
+            _ => WaitAction::Abort,
+        }
+    };
+    let mtx_wait = |word: &WaitWord, seen: &u64| {
+        gathering.act(word.load());
+        gathering.act(*seen);
+        if let HeldUp::InWaits(_) = held_up {
+            let _ = meeting.meet() && meeting.meet();
+        }
+        WaitAction::Abort
+    };
+    let took = if is_plain {
+        wait_to(rt, cond, pass, mutex, mtx_pass, wake, wait, mtx_wait)
+    } else {
+        wait_once(rt, cond, pass, mutex, mtx_pass, wake, wait, mtx_wait)
+    };
+    (took, gathering.gathered())
 }
 
 /// Whether the mutex is free.
@@ -107,11 +203,20 @@ fn a_notify_before_the_wait_is_lost(rt: HostRuntime) -> Result<(), Fail> {
     let (mutex, mut one, mut other) = mutex_in_two_parts(rt.alloc())?;
     let (cond, mut pass) = ConditionVariable::new(rt.alloc())?;
     let notified = notify_gathered(&cond, &mut pass);
-    let waited = wait_and_abort(&rt, &cond, &mut pass, &mutex, &mut one);
+    let waited = wait_gathered(
+        &rt,
+        &cond,
+        &mut pass,
+        &mutex,
+        &mut one,
+        &Meeting::of(1),
+        HeldUp::Nowhere,
+        true,
+    );
     let free_after = is_free(&mutex, &mut other);
     assert_eq!(rt;
         (notified, waited, free_after),
-        ((23, 0), Some((21, 0)), true)
+        ((23, 0), (Some(false), (211, 0)), true)
     );
     Ok(())
 }
@@ -248,8 +353,7 @@ fn two_threads_hand_a_turn_to_each_other(rt: HostRuntime) -> Result<(), Fail> {
     Ok(())
 }
 
-/// Waits with a closure that answers so once the other thread has notified. Then waits again, with closures that answer `Abort` at once. What
-/// each answered, where it has the mutex: whether it took a permit.
+/// Waits, held up so, and then again, with closures that answer `Abort` at once. What both came to, the first with its closures.
 fn wait_twice<R: Wait>(
     rt: &R,
     cond: &ConditionVariable,
@@ -258,59 +362,25 @@ fn wait_twice<R: Wait>(
     mtx_pass: &mut MutexPass,
     meeting: &Meeting,
     action: WaitAction,
-) -> Option<(bool, bool)>
+) -> ((Option<bool>, (u64, u64)), Option<bool>)
     requires own { IsCondPass cond.now pass.old × IsMutexPass mutex.now mtx_pass.old }
 {
-    let first = wait_once(rt, cond, pass, mutex, mtx_pass, wake_nobody, |_, _| {
-        if meeting.meet() && meeting.meet() {
-            action
-        } else {
-            WaitAction::Abort
-        }
-    })?;
-    let second = wait_once(rt, cond, pass, mutex, mtx_pass, wake_nobody, give_up)?;
-    Some((first, second))
-}
-
-/// Locks, waits with these closures, and unlocks. Whether the wait took a permit, where it has the mutex.
-pub(super) fn wait_once<R: Wait, K: Fn(&WaitWord), W: Fn(&WaitWord, &u64) -> WaitAction>(
-    rt: &R,
-    cond: &ConditionVariable,
-    pass: &mut CondPass,
-    mutex: &Mutex,
-    mtx_pass: &mut MutexPass,
-    mtx_wake_one: K,
-    wait: W,
-) -> Option<bool>
-    requires own { IsCondPass cond.now pass.old × IsMutexPass mutex.now mtx_pass.old }
-    requires may { K.IsAlwaysCallable mtx_wake_one × W.IsAlwaysCallable wait }
-    ensures stayed { HasStayed pass.old pass.new }
-    ensures same { IsSamePass mtx_pass.old mtx_pass.new }
-{
-    let WaitResult::Success(hold) = Mutex::try_lock(mtx_pass, mutex) else {
-        return None;
-    };
-    let answer = ConditionVariable::wait_held(
-        hold,
-        cond,
+    let held_up = HeldUp::InWaits(action);
+    let first = wait_gathered(rt, cond, pass, mutex, mtx_pass, meeting, held_up, false);
+    if first.0.is_none() {
+        let _ = meeting.meet() && meeting.meet();
+    }
+    let second = wait_once(
         rt,
+        cond,
         pass,
         mutex,
-        mtx_wake_one,
-        wait,
+        mtx_pass,
+        wake_nobody,
+        give_up,
         give_up,
     );
-    match answer {
-        WaitResult::Success(Woken::Signalled(hold)) => {
-            mutex.unlock(hold, wake_nobody);
-            Some(true)
-        }
-        WaitResult::Success(Woken::Unsignalled(hold)) => {
-            mutex.unlock(hold, wake_nobody);
-            Some(false)
-        }
-        WaitResult::Interrupted => None,
-    }
+    (first, second)
 }
 
 /// Notifies all and one once the other thread sleeps. What the closures saw of the permits, if that came and the mutex was free.
@@ -334,7 +404,13 @@ fn notify_while_it_sleeps<R: Threads + Wait + Sync>(
     rt: &R,
     alloc: Global,
     action: WaitAction,
-) -> Result<(Option<(u64, u64)>, Option<(bool, bool)>), AllocError> {
+) -> Result<
+    (
+        Option<(u64, u64)>,
+        ((Option<bool>, (u64, u64)), Option<bool>),
+    ),
+    AllocError,
+> {
     let (mutex, mut mtx_one, mut mtx_two) = mutex_in_two_parts(alloc)?;
     let (cond, mut one, mut two) = in_two_parts(alloc)?;
     let meeting = Meeting::of(2);
@@ -352,7 +428,7 @@ fn a_sleeper_is_counted_and_the_mutex_is_free(rt: HostRuntime) -> Result<(), Fai
     for action in [WaitAction::Abort, WaitAction::Continue] {
         assert_eq!(rt;
             notify_while_it_sleeps(&rt, rt.alloc(), action)?,
-            (Some((23, 12)), Some((true, true)))
+            (Some((23, 12)), ((Some(true), (211, 0)), Some(true)))
         );
     }
     Ok(())
@@ -378,20 +454,19 @@ fn a_waiter_is_counted_before_it_unlocks(rt: HostRuntime) -> Result<(), Fail> {
         &rt,
         || notify_the_unlocker(&cond, &mut one, &meeting),
         || {
-            wait_once(
+            wait_gathered(
                 &rt,
                 &cond,
                 &mut two,
                 &mutex,
                 &mut mtx_pass,
-                |_| {
-                    let _ = meeting.meet() && meeting.meet();
-                },
-                give_up,
+                &meeting,
+                HeldUp::InWake,
+                false,
             )
         },
     );
-    assert_eq!(rt; unlocked_and_took, (true, Some(true)));
+    assert_eq!(rt; unlocked_and_took, (true, (Some(true), (2, 0))));
     Ok(())
 }
 
@@ -419,53 +494,6 @@ fn lock_out_the_sleeper(
     }
 }
 
-/// Waits with closures that answer `Abort`, that of the wait once the other thread has locked the mutex, that of the mutex once it has
-/// notified. Then waits again, once the mutex is free. Where the first wait gave up without the mutex: how often it called the closure of the
-/// mutex, and whether the second took a permit.
-fn wait_locked_out<R: Wait>(
-    rt: &R,
-    cond: &ConditionVariable,
-    pass: &mut CondPass,
-    mutex: &Mutex,
-    mtx_pass: &mut MutexPass,
-    meeting: &Meeting,
-) -> Option<(u64, bool)>
-    requires own { IsCondPass cond.now pass.old × IsMutexPass mutex.now mtx_pass.old }
-{
-    let calls = AtomicU64::new(0);
-    let WaitResult::Success(hold) = Mutex::try_lock(mtx_pass, mutex) else {
-        return None;
-    };
-    let answer = ConditionVariable::wait_held(
-        hold,
-        cond,
-        rt,
-        pass,
-        mutex,
-        wake_nobody,
-        |_, _| {
-            let _ = meeting.meet() && meeting.meet();
-            WaitAction::Abort
-        },
-        |_, _| {
-            calls.fetch_add(1, Ordering::SeqCst);
-            let _ = meeting.meet() && meeting.meet();
-            WaitAction::Abort
-        },
-    );
-    match answer {
-        WaitResult::Success(Woken::Signalled(hold) | Woken::Unsignalled(hold)) => {
-            mutex.unlock(hold, wake_nobody);
-            None
-        }
-        WaitResult::Interrupted => {
-            let _ = meeting.meet() && meeting.meet();
-            let took = wait_once(rt, cond, pass, mutex, mtx_pass, wake_nobody, give_up)?;
-            Some((calls.load(Ordering::SeqCst), took))
-        }
-    }
-}
-
 /// It is counted no more once it locks, so the notify that comes then gives no permit, and its next wait takes none.
 #[test]
 fn gives_up_without_the_mutex(rt: HostRuntime) -> Result<(), Fail> {
@@ -475,9 +503,19 @@ fn gives_up_without_the_mutex(rt: HostRuntime) -> Result<(), Fail> {
     let over_and_asked = thread::join(
         &rt,
         || lock_out_the_sleeper(&cond, &mut one, &mutex, &mut mtx_one, &meeting),
-        || wait_locked_out(&rt, &cond, &mut two, &mutex, &mut mtx_two, &meeting),
+        || {
+            wait_twice(
+                &rt,
+                &cond,
+                &mut two,
+                &mutex,
+                &mut mtx_two,
+                &meeting,
+                WaitAction::Abort,
+            )
+        },
     );
-    assert_eq!(rt; over_and_asked, (true, Some((1, false))));
+    assert_eq!(rt; over_and_asked, (true, ((None, (21144, 11)), Some(false))));
     Ok(())
 }
 
@@ -503,64 +541,28 @@ fn free_the_mutex(
     }
 }
 
-/// Waits with closures that answer `Abort`, that of the wait once the other thread has locked the mutex, that of the mutex once it is free.
-/// Where the wait took a permit and has the mutex: what its closure and that of the mutex noted.
-fn wait_for_the_mutex<R: Wait>(
-    rt: &R,
-    cond: &ConditionVariable,
-    pass: &mut CondPass,
-    mutex: &Mutex,
-    mtx_pass: &mut MutexPass,
-    meeting: &Meeting,
-) -> Option<[(u64, u64, u64); 2]>
-    requires own { IsCondPass cond.now pass.old × IsMutexPass mutex.now mtx_pass.old }
-{
-    let (notes, mtx_notes) = (Notes::new(), Notes::new());
-    let WaitResult::Success(hold) = Mutex::try_lock(mtx_pass, mutex) else {
-        return None;
-    };
-    let answer = ConditionVariable::wait(
-        hold,
-        cond,
-        rt,
-        pass,
-        mutex,
-        wake_nobody,
-        |word, seen| {
-            notes.note(word.load(), *seen);
-            let _ = meeting.meet() && meeting.meet();
-            WaitAction::Abort
-        },
-        |word, seen| {
-            mtx_notes.note(word.load(), *seen);
-            let _ = meeting.meet() && meeting.meet();
-            WaitAction::Abort
-        },
-    );
-    match answer {
-        CondResult::Success(hold) => {
-            mutex.unlock(hold, wake_nobody);
-            Some([notes.noted(), mtx_notes.noted()])
-        }
-        CondResult::Interrupted(Some(hold)) => {
-            mutex.unlock(hold, wake_nobody);
-            None
-        }
-        CondResult::Interrupted(None) => None,
-    }
-}
-
 /// Both closures answer `Abort`, and after each the wait looks once more: it takes the permit, and then the mutex.
 #[test]
 fn success_after_both_aborts(rt: HostRuntime) -> Result<(), Fail> {
     let (mutex, mut mtx_one, mut mtx_two) = mutex_in_two_parts(rt.alloc())?;
     let (cond, mut one, mut two) = in_two_parts(rt.alloc())?;
     let meeting = Meeting::of(2);
-    let freed_and_noted = thread::join(
+    let freed_and_gathered = thread::join(
         &rt,
         || free_the_mutex(&cond, &mut one, &mutex, &mut mtx_one, &meeting),
-        || wait_for_the_mutex(&rt, &cond, &mut two, &mutex, &mut mtx_two, &meeting),
+        || {
+            wait_gathered(
+                &rt,
+                &cond,
+                &mut two,
+                &mutex,
+                &mut mtx_two,
+                &meeting,
+                HeldUp::InWaits(WaitAction::Abort),
+                true,
+            )
+        },
     );
-    assert_eq!(rt; freed_and_noted, (true, Some([(1, 0, 0), (1, 1, 1)])));
+    assert_eq!(rt; freed_and_gathered, (true, (Some(true), (21144, 11))));
     Ok(())
 }

@@ -1,18 +1,17 @@
 //! The running mutex.
 ghost use Rattle.std.specs.Prelude.{◌≡◌, ◌+◌, false, IfOk};
 ghost use Rattle.running_passes.specs.Passes.{sights_of};
-ghost use Rattle.running_mutex.specs.MutexShown.{IsMutexPass, IsAlone, HasStayed, grants_of};
+ghost use Rattle.running_mutex.specs.MutexShown.{IsMutexPass, IsAlone, HasStayed, HasUnlocked, grants_of, pass_of, borrow_of};
 
-use super::give_up;
 use super::party::{self, Party};
-use iceoryx2_pal_concurrency_sync::strategy::mutex::{Mutex, MutexPass};
+use super::{give_up, nothing};
+use iceoryx2_pal_concurrency_sync::strategy::mutex::{Mutex, MutexHold, MutexPass};
 use iceoryx2_pal_concurrency_sync::{
-    WaitAction, WaitResult, WaitWord, wake_nobody, yield_and_go_on,
+    WaitAction, WaitResult, WaitWord, in_threads, wake_nobody, yield_and_go_on,
 };
 use std::alloc::{AllocError, Global};
 use std::sync::Wait;
 use std::test::Fail;
-use std::thread;
 use std::thread::Threads;
 use test_signal::Gathering;
 
@@ -61,23 +60,13 @@ fn lock_in_two_threads<R: Threads + Wait + Sync>(
     ensures own { IsMutexPass mutex.now result }
     ensures alone { IsAlone result }
 {
-    let Ok((one, two)) = pass.split(mutex) else {
-        unreachable!()
-    };
-    let (one, two) = thread::join(
+    let mut pass = in_threads(
         rt,
-        || -> MutexPass
-            requires { IsMutexPass mutex.now one }
-            ensures { HasStayed one result }
-        { lock_and_unlock_often(rt, mutex, one) },
-        || -> MutexPass
-            requires { IsMutexPass mutex.now two }
-            ensures { HasStayed two result }
-        { lock_and_unlock_often(rt, mutex, two) },
+        mutex,
+        pass,
+        2,
+        &|pass| { lock_and_unlock_often(rt, mutex, pass) },
     );
-    let Ok(mut pass) = MutexPass::join(one, two, mutex) else {
-        unreachable!()
-    };
     match Mutex::try_lock(&mut pass, mutex) {
         WaitResult::Success(hold) => {
             mutex.unlock(hold, wake_nobody);
@@ -102,6 +91,17 @@ struct MutexParty<'m> {
     ghost own: { IsMutexPass mutex.now pass },
 }
 
+impl<'m> MutexParty<'m> {
+    /// Two parties, each with a part of the pass.
+    fn parts(self) -> (MutexParty<'m>, MutexParty<'m>) {
+        let MutexParty { mutex, pass } = self;
+        let Ok((one, two)) = pass.split(mutex) else {
+            unreachable!()
+        };
+        (party_of(mutex, one), party_of(mutex, two))
+    }
+}
+
 impl Party for MutexParty<'_> {
     fn try_to<T, F: FnOnce() -> T>(&mut self, wakes: &Gathering, act: F) -> Option<T> {
         try_to(self.mutex, &mut self.pass, wakes, act)
@@ -118,6 +118,15 @@ impl Party for MutexParty<'_> {
     }
 }
 
+/// Unlocks. The wake closure is gathered.
+fn unlock_gathered<'p>(hold: MutexHold<'p>, mutex: &Mutex, wakes: &Gathering) -> &'p mut MutexPass
+    requires own { IsMutexPass mutex.now (pass_of hold) }
+    ensures same_borrow { result.ghost_name ≡ borrow_of hold.entry }
+    ensures released { HasUnlocked (pass_of hold.entry) result.now }
+{
+    mutex.unlock(hold, |word| wakes.wake_one(word.load()))
+}
+
 /// Tries to lock, acts while it has the hold, and unlocks: a party's `try_to`.
 fn try_to<T, F: FnOnce() -> T>(
     mutex: &Mutex,
@@ -132,7 +141,7 @@ fn try_to<T, F: FnOnce() -> T>(
     match Mutex::try_lock(pass, mutex) {
         WaitResult::Success(hold) => {
             let acted = act();
-            mutex.unlock(hold, |word| wakes.wake_one(word.load()));
+            unlock_gathered(hold, mutex, wakes);
             Some(acted)
         }
         WaitResult::Interrupted => None,
@@ -155,24 +164,24 @@ fn wait_to<T, R: Wait, W: Fn(&WaitWord, &u64) -> WaitAction, F: FnOnce() -> T>(
     match Mutex::lock(pass, mutex, rt, wait) {
         WaitResult::Success(hold) => {
             let acted = act();
-            mutex.unlock(hold, |word| wakes.wake_one(word.load()));
+            unlock_gathered(hold, mutex, wakes);
             Some(acted)
         }
         WaitResult::Interrupted => None,
     }
 }
 
+/// A party at this mutex with this pass.
+fn party_of(mutex: &Mutex, pass: MutexPass) -> MutexParty<'_>
+    requires own { IsMutexPass mutex.now pass }
+{
+    MutexParty { mutex, pass }
+}
+
 #[test]
 fn one_holder_at_a_time(rt: HostRuntime) -> Result<(), Fail> {
-    let (mutex, one, two) = in_two_parts(rt.alloc())?;
-    let mut holder = MutexParty {
-        mutex: &mutex,
-        pass: one,
-    };
-    let mut other = MutexParty {
-        mutex: &mutex,
-        pass: two,
-    };
+    let (mutex, pass) = Mutex::new(rt.alloc())?;
+    let (mut holder, mut other) = party_of(&mutex, pass).parts();
     let answers = party::refused_beside(&rt, &mut holder, &mut other);
     assert_eq!(rt; answers, Some((true, (true, (1, 1, 1)), false)));
     Ok(())
@@ -181,10 +190,7 @@ fn one_holder_at_a_time(rt: HostRuntime) -> Result<(), Fail> {
 #[test]
 fn a_free_mutex_is_granted_unasked(rt: HostRuntime) -> Result<(), Fail> {
     let (mutex, pass) = Mutex::new(rt.alloc())?;
-    let mut alone = MutexParty {
-        mutex: &mutex,
-        pass,
-    };
+    let mut alone = party_of(&mutex, pass);
     let wakes = Gathering::new();
     let waited = party::wait_and_abort(&rt, &mut alone, &wakes);
     assert_eq!(rt; (waited, wakes.gathered()), ((false, (0, 0, 0)), (2, 0)));
@@ -197,7 +203,7 @@ fn lock_or_abort_at_once<R: Wait>(rt: &R, mutex: &Mutex, pass: &mut MutexPass) -
     ensures stayed { HasStayed pass.old pass.new }
     ensures looked { result ≡ false → (sights_of pass.new).count ≡ (sights_of pass.old).count + 10002 }
 {
-    let answer = mutex.with_lock(rt, pass, give_up, wake_nobody, || ());
+    let answer = mutex.with_lock(rt, pass, give_up, wake_nobody, nothing);
     match answer {
         WaitResult::Success(()) => true,
         WaitResult::Interrupted => false,
@@ -232,30 +238,20 @@ fn gives_up_after_10002_looks(rt: HostRuntime) -> Result<(), Fail> {
     Ok(())
 }
 
-/// A call that went on after `Abort` would lock the mutex once the other thread lets it go.
+/// A call that went on after `Abort` would ask again, and lock the mutex once the other thread lets it go.
 #[test]
 fn an_abort_is_obeyed(rt: HostRuntime) -> Result<(), Fail> {
-    let (mutex, one, two) = in_two_parts(rt.alloc())?;
-    let mut holder = MutexParty {
-        mutex: &mutex,
-        pass: one,
-    };
-    let mut other = MutexParty {
-        mutex: &mutex,
-        pass: two,
-    };
-    let over_and_asked = party::aborts_beside(&rt, &mut holder, &mut other);
-    assert_eq!(rt; over_and_asked, (Some(true), Some(1)));
+    let (mutex, pass) = Mutex::new(rt.alloc())?;
+    let (mut holder, mut other) = party_of(&mutex, pass).parts();
+    let over_and_noted = party::let_in_beside(&rt, &mut holder, &mut other, None);
+    assert_eq!(rt; over_and_noted, (true, (false, (1, 1, 1))));
     Ok(())
 }
 
 #[test]
 fn unlock_wakes_once_after_its_store(rt: HostRuntime) -> Result<(), Fail> {
     let (mutex, pass) = Mutex::new(rt.alloc())?;
-    let mut alone = MutexParty {
-        mutex: &mutex,
-        pass,
-    };
+    let mut alone = party_of(&mutex, pass);
     assert_eq!(rt; party::woken(&mut alone), Some((2, 0)));
     Ok(())
 }
@@ -263,17 +259,10 @@ fn unlock_wakes_once_after_its_store(rt: HostRuntime) -> Result<(), Fail> {
 #[test]
 fn two_calls_meet_and_success_after_abort(rt: HostRuntime) -> Result<(), Fail> {
     for action in [WaitAction::Abort, WaitAction::Continue] {
-        let (mutex, one, two) = in_two_parts(rt.alloc())?;
-        let mut holder = MutexParty {
-            mutex: &mutex,
-            pass: one,
-        };
-        let mut other = MutexParty {
-            mutex: &mutex,
-            pass: two,
-        };
-        let met_and_noted = party::let_in_beside(&rt, &mut holder, &mut other, action);
-        assert_eq!(rt; met_and_noted, (true, Some((1, 1, 1))));
+        let (mutex, pass) = Mutex::new(rt.alloc())?;
+        let (mut holder, mut other) = party_of(&mutex, pass).parts();
+        let met_and_noted = party::let_in_beside(&rt, &mut holder, &mut other, Some(action));
+        assert_eq!(rt; met_and_noted, (true, (true, (1, 1, 1))));
     }
     Ok(())
 }
@@ -310,10 +299,7 @@ fn part_and_join(mutex: &Mutex, pass: MutexPass) -> MutexPass
 fn parts_are_the_whole_again(rt: HostRuntime) -> Result<(), Fail> {
     let (mutex, pass) = Mutex::new(rt.alloc())?;
     let pass = part_and_join(&mutex, pass);
-    let mut whole = MutexParty {
-        mutex: &mutex,
-        pass,
-    };
+    let mut whole = party_of(&mutex, pass);
     assert!(rt; !party::is_refused(&mut whole));
     Ok(())
 }
@@ -350,10 +336,7 @@ fn part_in_four_and_join(mutex: &Mutex, pass: MutexPass) -> MutexPass
 fn four_parts_are_the_whole_from_left_to_right(rt: HostRuntime) -> Result<(), Fail> {
     let (mutex, pass) = Mutex::new(rt.alloc())?;
     let pass = part_in_four_and_join(&mutex, pass);
-    let mut whole = MutexParty {
-        mutex: &mutex,
-        pass,
-    };
+    let mut whole = party_of(&mutex, pass);
     assert!(rt; !party::is_refused(&mut whole));
     Ok(())
 }
@@ -406,10 +389,7 @@ fn locks_within_a_method(rt: HostRuntime) -> Result<(), Fail> {
 #[test]
 fn acts_while_the_mutex_is_locked(rt: HostRuntime) -> Result<(), Fail> {
     let (mutex, mut one, two) = in_two_parts(rt.alloc())?;
-    let mut other = MutexParty {
-        mutex: &mutex,
-        pass: two,
-    };
+    let mut other = party_of(&mutex, two);
     let act = || party::is_refused(&mut other);
     let inside = mutex.with_lock(&rt, &mut one, yield_and_go_on, wake_nobody, act);
     assert_eq!(rt; matches!(inside, WaitResult::Success(true)), true);

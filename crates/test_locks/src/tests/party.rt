@@ -1,12 +1,12 @@
 //! What is tested of each lock, whichever way it is locked: that a party tries, waits, gives up, and is let in after that.
 ghost use Rattle.std.specs.Prelude.{◌≡◌};
 
+use super::nothing;
 use iceoryx2_pal_concurrency_sync::{WaitAction, WaitWord};
 use std::sync::Wait;
-use std::sync::atomic::{AtomicU64, Ordering};
 use std::thread;
 use std::thread::Threads;
-use test_signal::{Gathering, Meeting, Notes, Signal};
+use test_signal::{Gathering, Meeting, Notes};
 
 /// A party at a lock, with a part of its pass, and the one way in which it locks.
 pub(super) trait Party {
@@ -37,7 +37,7 @@ pub(super) type Noted = (u64, u64, u64);
 
 /// Whether a try is refused now.
 pub(super) fn is_refused<P: Party>(party: &mut P) -> bool {
-    let tried = party.try_to(&Gathering::new(), || ());
+    let tried = party.try_to(&Gathering::new(), nothing);
     tried.is_none()
 }
 
@@ -57,7 +57,7 @@ pub(super) fn wait_and_abort<P: Party, R: Wait>(
             WaitAction::Abort
         },
         gathering,
-        || (),
+        nothing,
     );
     (waited.is_none(), notes.noted())
 }
@@ -80,57 +80,11 @@ pub(super) fn refused_beside<P: Party, Q: Party, R: Wait>(
 /// What the wake closures are told of a lock that is let go.
 pub(super) fn woken<P: Party>(party: &mut P) -> Option<(u64, u64)> {
     let wakes = Gathering::new();
-    let tried = party.try_to(&wakes, || ());
+    let tried = party.try_to(&wakes, nothing);
     tried.is_some().then_some(wakes.gathered())
 }
 
-/// Holds the lock until the other thread's call is over, or asks again.
-fn hold_until_over<P: Party>(party: &mut P, locked: &Signal, over: &Signal) -> Option<bool> {
-    party.try_to(&Gathering::new(), || {
-        locked.give();
-        over.awaited()
-    })
-}
-
-/// Waits with a closure that answers `Abort` at once, and says so should it be asked again. How often it was asked, if the call gave up.
-fn wait_until_over<P: Party, R: Wait>(
-    rt: &R,
-    party: &mut P,
-    locked: &Signal,
-    over: &Signal,
-) -> Option<u64> {
-    let calls = AtomicU64::new(0);
-    locked.awaited();
-    let waited = party.wait_to(
-        rt,
-        |_, _| {
-            if calls.fetch_add(1, Ordering::SeqCst) > 0 {
-                over.give();
-            }
-            WaitAction::Abort
-        },
-        &Gathering::new(),
-        || (),
-    );
-    over.give();
-    waited.is_none().then_some(calls.load(Ordering::SeqCst))
-}
-
-/// One thread holds the lock until the call of another, which gives up, is over: whether that came, and how often the call asked.
-pub(super) fn aborts_beside<P: Party + Send, Q: Party + Send, R: Threads + Wait + Sync>(
-    rt: &R,
-    holder: &mut P,
-    other: &mut Q,
-) -> (Option<bool>, Option<u64>) {
-    let (locked, over) = (Signal::new(), Signal::new());
-    thread::join(
-        rt,
-        || hold_until_over(holder, &locked, &over),
-        || wait_until_over(rt, other, &locked, &over),
-    )
-}
-
-/// Holds the lock until the other thread asks. Whether that came.
+/// Holds the lock until the other thread asks, or its call is over. Whether that came.
 pub(super) fn hold_until_asked<P: Party>(
     party: &mut P,
     wakes: &Gathering,
@@ -140,44 +94,45 @@ pub(super) fn hold_until_asked<P: Party>(
     was_asked == Some(true) && meeting.meet()
 }
 
-/// Waits once the other thread has the lock, with a closure that answers so once that has unlocked. What the closure noted, if the call
-/// succeeded.
+/// Waits once the other thread has the lock. The wait closure answers so once that has unlocked; without an answer it answers `Abort` at
+/// once, and the other holds the lock until the call is over. Whether the call succeeded, and what the closure noted.
 pub(super) fn wait_for_unlock<P: Party, R: Wait>(
     rt: &R,
     party: &mut P,
     meeting: &Meeting,
-    action: WaitAction,
-) -> Option<Noted> {
+    answer: Option<WaitAction>,
+) -> (bool, Noted) {
     let notes = Notes::new();
     let is_locked = meeting.meet();
     let waited = party.wait_to(
         rt,
         |word, seen| {
             notes.note(word.load(), *seen);
-            if meeting.meet() && meeting.meet() {
-                action
-            } else {
-                WaitAction::Abort
+            match answer {
+                Some(action) if meeting.meet() && meeting.meet() => action,
+                _ => WaitAction::Abort,
             }
         },
         &Gathering::new(),
-        || (),
+        nothing,
     );
-    (is_locked && waited.is_some()).then_some(notes.noted())
+    let is_over = answer.is_some() || meeting.meet() && meeting.meet();
+    (is_locked && is_over && waited.is_some(), notes.noted())
 }
 
-/// One thread holds the lock, and another waits for it with a closure that answers so: whether the holder was asked to let go, and what
-/// the closure noted. So both calls are under way at once; and the other looks once more, whatever its closure answers then.
+/// One thread holds the lock, and another waits for it with a closure that answers so: whether the holder let go when it was to, whether
+/// the other came in, and what the closure noted. So both calls are under way at once; and the other looks once more, whatever its closure
+/// answers once it is free.
 pub(super) fn let_in_beside<P: Party + Send, Q: Party + Send, R: Threads + Wait + Sync>(
     rt: &R,
     holder: &mut P,
     other: &mut Q,
-    action: WaitAction,
-) -> (bool, Option<Noted>) {
+    answer: Option<WaitAction>,
+) -> (bool, (bool, Noted)) {
     let meeting = Meeting::of(2);
     thread::join(
         rt,
         || hold_until_asked(holder, &Gathering::new(), &meeting),
-        || wait_for_unlock(rt, other, &meeting, action),
+        || wait_for_unlock(rt, other, &meeting, answer),
     )
 }

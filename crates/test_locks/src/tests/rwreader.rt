@@ -1,54 +1,22 @@
 //! The running reader-preferring lock.
-ghost use Rattle.std.specs.Prelude.{◌≡◌, ◌+◌, false, IfOk};
+ghost use Rattle.std.specs.Prelude.{◌≡◌, ◌+◌, false};
 ghost use Rattle.running_passes.specs.Passes.{IsSamePass, sights_of};
-ghost use Rattle.running_rw_reader.specs.RwReaderShown.{IsRwReaderPass, IsAlone, HasStayed, reads_of, writes_of};
+ghost use Rattle.running_rw_reader.specs.RwReaderShown.{IsRwReaderPass, IsAlone, HasStayed, HasUnlocked};
+ghost use Rattle.running_rw_hold.specs.RwShown.{pass_of, borrow_of};
 
-use super::give_up;
 use super::party::{self, Kind, Noted, Party};
-use iceoryx2_pal_concurrency_sync::strategy::rwlock::{RwLockReaderPreference, RwReaderPass};
+use super::{give_up, nothing};
+use iceoryx2_pal_concurrency_sync::strategy::rwlock::{
+    RwHold, RwLockReaderPreference, RwReaderPass,
+};
 use iceoryx2_pal_concurrency_sync::{
     WaitAction, WaitResult, WaitWord, wake_nobody, yield_and_go_on,
 };
-use std::alloc::{AllocError, Global};
 use std::sync::Wait;
 use std::test::Fail;
 use std::thread;
 use std::thread::Threads;
 use test_signal::{Gathering, Meeting};
-
-/// A new lock, and two parts of its pass.
-fn in_two_parts(
-    alloc: Global,
-) -> Result<(RwLockReaderPreference, RwReaderPass, RwReaderPass), AllocError>
-    ensures own { IfOk result (λ made. IsRwReaderPass made.0 made.1 × IsRwReaderPass made.0 made.2) }
-{
-    let (lock, pass) = RwLockReaderPreference::new(alloc)?;
-    match pass.split(&lock) {
-        Ok((one, two)) => Ok((lock, one, two)),
-        Err(_) => unreachable!(),
-    }
-}
-
-/// A new lock, and three parts of its pass.
-fn in_three_parts(
-    alloc: Global,
-) -> Result<
-    (
-        RwLockReaderPreference,
-        RwReaderPass,
-        RwReaderPass,
-        RwReaderPass,
-    ),
-    AllocError,
->
-    ensures own { IfOk result (λ made. IsRwReaderPass made.0 made.1 × IsRwReaderPass made.0 made.2 × IsRwReaderPass made.0 made.3) }
-{
-    let (lock, one, rest) = in_two_parts(alloc)?;
-    match rest.split(&lock) {
-        Ok((two, three)) => Ok((lock, one, two, three)),
-        Err(_) => unreachable!(),
-    }
-}
 
 /// Locks for reading and unlocks, with closures that yield and answer `Continue`: that is never interrupted.
 fn read_and_unlock<R: Wait>(rt: &R, lock: &RwLockReaderPreference, pass: &mut RwReaderPass)
@@ -142,6 +110,17 @@ struct ReaderLockParty<'l> {
     ghost own: { IsRwReaderPass lock.now pass },
 }
 
+impl<'l> ReaderLockParty<'l> {
+    /// It, and a party of this kind, each with a part of the pass.
+    fn and(self, other: Kind) -> (ReaderLockParty<'l>, ReaderLockParty<'l>) {
+        let ReaderLockParty { lock, pass, kind } = self;
+        let Ok((one, two)) = pass.split(lock) else {
+            unreachable!()
+        };
+        (party_of(lock, one, kind), party_of(lock, two, other))
+    }
+}
+
 impl Party for ReaderLockParty<'_> {
     fn try_to<T, F: FnOnce() -> T>(&mut self, wakes: &Gathering, act: F) -> Option<T> {
         try_to(self.lock, &mut self.pass, self.kind, wakes, act)
@@ -158,6 +137,19 @@ impl Party for ReaderLockParty<'_> {
     }
 }
 
+/// Unlocks. The wake closures are gathered.
+fn unlock_gathered<'p>(
+    hold: RwHold<'p, RwReaderPass>,
+    lock: &RwLockReaderPreference,
+    wakes: &Gathering,
+) -> &'p mut RwReaderPass
+    requires own { IsRwReaderPass lock.now (pass_of hold) }
+    ensures same_borrow { result.ghost_name ≡ borrow_of hold.entry }
+    ensures released { HasUnlocked hold.entry result.now }
+{
+    lock.unlock(hold, |word| wakes.wake_one(word.load()))
+}
+
 /// Tries to lock, acts while it has the hold, and unlocks: a party's `try_to`.
 fn try_to<T, F: FnOnce() -> T>(
     lock: &RwLockReaderPreference,
@@ -170,13 +162,12 @@ fn try_to<T, F: FnOnce() -> T>(
     requires may { F.IsAlwaysCallable act }
     ensures stayed { HasStayed pass.old pass.new }
 {
-    let wake = |word: &WaitWord| wakes.wake_one(word.load());
     match kind {
         Kind::Read => {
             match RwLockReaderPreference::try_read_lock(pass, lock) {
                 WaitResult::Success(hold) => {
                     let acted = act();
-                    lock.unlock(hold, wake);
+                    unlock_gathered(hold, lock, wakes);
                     Some(acted)
                 }
                 WaitResult::Interrupted => None,
@@ -186,7 +177,7 @@ fn try_to<T, F: FnOnce() -> T>(
             match RwLockReaderPreference::try_write_lock(pass, lock) {
                 WaitResult::Success(hold) => {
                     let acted = act();
-                    lock.unlock(hold, wake);
+                    unlock_gathered(hold, lock, wakes);
                     Some(acted)
                 }
                 WaitResult::Interrupted => None,
@@ -209,13 +200,12 @@ fn wait_to<T, R: Wait, W: Fn(&WaitWord, &u64) -> WaitAction, F: FnOnce() -> T>(
     requires may { W.IsAlwaysCallable wait × F.IsAlwaysCallable act }
     ensures stayed { HasStayed pass.old pass.new }
 {
-    let wake = |word: &WaitWord| wakes.wake_one(word.load());
     match kind {
         Kind::Read => {
             match RwLockReaderPreference::read_lock(pass, lock, rt, wait) {
                 WaitResult::Success(hold) => {
                     let acted = act();
-                    lock.unlock(hold, wake);
+                    unlock_gathered(hold, lock, wakes);
                     Some(acted)
                 }
                 WaitResult::Interrupted => None,
@@ -225,7 +215,7 @@ fn wait_to<T, R: Wait, W: Fn(&WaitWord, &u64) -> WaitAction, F: FnOnce() -> T>(
             match RwLockReaderPreference::write_lock(pass, lock, rt, wait) {
                 WaitResult::Success(hold) => {
                     let acted = act();
-                    lock.unlock(hold, wake);
+                    unlock_gathered(hold, lock, wakes);
                     Some(acted)
                 }
                 WaitResult::Interrupted => None,
@@ -259,9 +249,8 @@ fn only_readers_enter_together(rt: HostRuntime) -> Result<(), Fail> {
             (true, (true, (1, u64::MAX, u64::MAX)), false),
         ),
     ] {
-        let (lock, one, two) = in_two_parts(rt.alloc())?;
-        let mut holder = party_of(&lock, one, held);
-        let mut other = party_of(&lock, two, asked);
+        let (lock, pass) = RwLockReaderPreference::new(rt.alloc())?;
+        let (mut holder, mut other) = party_of(&lock, pass, held).and(asked);
         let seen = party::refused_beside(&rt, &mut holder, &mut other);
         assert_eq!(rt; seen, Some(answers));
     }
@@ -291,10 +280,9 @@ fn beside_two_readers<R: Wait>(
 
 #[test]
 fn a_writer_enters_after_both_readers_left(rt: HostRuntime) -> Result<(), Fail> {
-    let (lock, one, two, three) = in_three_parts(rt.alloc())?;
-    let mut one = party_of(&lock, one, Kind::Read);
-    let mut two = party_of(&lock, two, Kind::Read);
-    let mut three = party_of(&lock, three, Kind::Write);
+    let (lock, pass) = RwLockReaderPreference::new(rt.alloc())?;
+    let (mut one, others) = party_of(&lock, pass, Kind::Read).and(Kind::Read);
+    let (mut two, mut three) = others.and(Kind::Write);
     let answers = beside_two_readers(&rt, &mut one, &mut two, &mut three);
     assert_eq!(rt;
         answers,
@@ -323,20 +311,22 @@ fn write_or_abort_at_once<R: Wait>(
     }
 }
 
-/// The same while `one` reads, and after.
+/// The same with one half of the pass while the other reads, and after.
 fn abort_at_once_beside_a_reader<R: Wait>(
     rt: &R,
     lock: &RwLockReaderPreference,
-    one: &mut RwReaderPass,
-    two: &mut RwReaderPass,
+    pass: RwReaderPass,
 ) -> Option<(bool, bool)>
-    requires { IsRwReaderPass lock.now one.old × IsRwReaderPass lock.now two.old }
+    requires { IsRwReaderPass lock.now pass }
 {
-    match RwLockReaderPreference::try_read_lock(one, lock) {
+    let Ok((mut one, mut two)) = pass.split(lock) else {
+        unreachable!()
+    };
+    match RwLockReaderPreference::try_read_lock(&mut one, lock) {
         WaitResult::Success(hold) => {
-            let beside = write_or_abort_at_once(rt, lock, two);
+            let beside = write_or_abort_at_once(rt, lock, &mut two);
             lock.unlock(hold, wake_nobody);
-            Some((beside, write_or_abort_at_once(rt, lock, two)))
+            Some((beside, write_or_abort_at_once(rt, lock, &mut two)))
         }
         WaitResult::Interrupted => None,
     }
@@ -344,8 +334,8 @@ fn abort_at_once_beside_a_reader<R: Wait>(
 
 #[test]
 fn gives_up_writing_after_10002_looks(rt: HostRuntime) -> Result<(), Fail> {
-    let (lock, mut one, mut two) = in_two_parts(rt.alloc())?;
-    let answers = abort_at_once_beside_a_reader(&rt, &lock, &mut one, &mut two);
+    let (lock, pass) = RwLockReaderPreference::new(rt.alloc())?;
+    let answers = abort_at_once_beside_a_reader(&rt, &lock, pass);
     assert_eq!(rt; answers, Some((false, true)));
     Ok(())
 }
@@ -353,9 +343,8 @@ fn gives_up_writing_after_10002_looks(rt: HostRuntime) -> Result<(), Fail> {
 /// Asked for with a closure that would give up, a free lock is granted. Each unlock wakes once, after its write, and leaves 0.
 #[test]
 fn a_free_lock_is_granted_unasked(rt: HostRuntime) -> Result<(), Fail> {
-    let (lock, one, two) = in_two_parts(rt.alloc())?;
-    let mut reader = party_of(&lock, one, Kind::Read);
-    let mut writer = party_of(&lock, two, Kind::Write);
+    let (lock, pass) = RwLockReaderPreference::new(rt.alloc())?;
+    let (mut reader, mut writer) = party_of(&lock, pass, Kind::Read).and(Kind::Write);
     let wakes = Gathering::new();
     let read = party::wait_and_abort(&rt, &mut reader, &wakes);
     let written = party::wait_and_abort(&rt, &mut writer, &wakes);
@@ -370,9 +359,8 @@ fn a_free_lock_is_granted_unasked(rt: HostRuntime) -> Result<(), Fail> {
 /// The first of two readers to leave wakes too, and leaves the word at 1.
 #[test]
 fn a_reader_that_is_not_the_last_wakes(rt: HostRuntime) -> Result<(), Fail> {
-    let (lock, one, two) = in_two_parts(rt.alloc())?;
-    let mut first = party_of(&lock, one, Kind::Read);
-    let mut second = party_of(&lock, two, Kind::Read);
+    let (lock, pass) = RwLockReaderPreference::new(rt.alloc())?;
+    let (mut first, mut second) = party_of(&lock, pass, Kind::Read).and(Kind::Read);
     let woken = first.try_to(&Gathering::new(), || party::woken(&mut second));
     assert_eq!(rt; woken, Some(Some((2, 1))));
     Ok(())
@@ -386,11 +374,10 @@ fn two_calls_meet_and_success_after_abort(rt: HostRuntime) -> Result<(), Fail> {
         (Kind::Read, WaitAction::Continue),
         (Kind::Write, WaitAction::Continue),
     ] {
-        let (lock, one, two) = in_two_parts(rt.alloc())?;
-        let mut holder = party_of(&lock, one, Kind::Write);
-        let mut other = party_of(&lock, two, kind);
-        let met_and_noted = party::let_in_beside(&rt, &mut holder, &mut other, action);
-        assert_eq!(rt; met_and_noted, (true, Some((1, u64::MAX, u64::MAX))));
+        let (lock, pass) = RwLockReaderPreference::new(rt.alloc())?;
+        let (mut holder, mut other) = party_of(&lock, pass, Kind::Write).and(kind);
+        let met_and_noted = party::let_in_beside(&rt, &mut holder, &mut other, Some(action));
+        assert_eq!(rt; met_and_noted, (true, (true, (1, u64::MAX, u64::MAX))));
     }
     Ok(())
 }
@@ -426,7 +413,7 @@ fn write_until_told_one<R: Wait>(
             }
         },
         &Gathering::new(),
-        || (),
+        nothing,
     );
     let is_over = meeting.meet();
     (waited.is_none() && are_reading && is_over).then_some(gathering.gathered())
@@ -435,10 +422,9 @@ fn write_until_told_one<R: Wait>(
 /// Of two readers one leaves while the writer waits: its closure is told 2, and then 1.
 #[test]
 fn a_waiting_writer_is_told_what_refused_it_last(rt: HostRuntime) -> Result<(), Fail> {
-    let (lock, one, two, three) = in_three_parts(rt.alloc())?;
-    let mut first = party_of(&lock, one, Kind::Read);
-    let mut second = party_of(&lock, two, Kind::Read);
-    let mut writer = party_of(&lock, three, Kind::Write);
+    let (lock, pass) = RwLockReaderPreference::new(rt.alloc())?;
+    let (mut first, others) = party_of(&lock, pass, Kind::Read).and(Kind::Read);
+    let (mut second, mut writer) = others.and(Kind::Write);
     let meeting = Meeting::of(2);
     let left_and_told = thread::join(
         &rt,

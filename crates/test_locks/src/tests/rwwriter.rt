@@ -1,56 +1,22 @@
 //! The running writer-preferring lock.
-ghost use Rattle.std.specs.Prelude.{◌≡◌, IfOk};
-ghost use Rattle.running_passes.specs.Parts.{IsAgain};
-ghost use Rattle.running_passes.specs.Passes.{object_of};
-ghost use Rattle.running_rw_writer.specs.RwWriterShown.{IsRwWriterPass, IsAlone, HasStayed, pass_in, part_in, reads_of, writes_of};
+ghost use Rattle.std.specs.Prelude.{◌≡◌};
+ghost use Rattle.running_rw_writer.specs.RwWriterShown.{IsRwWriterPass, IsAlone, HasStayed, HasUnlocked};
+ghost use Rattle.running_rw_hold.specs.RwShown.{pass_of, borrow_of};
 
-use super::give_up;
 use super::party::{self, Kind, Noted, Party};
-use iceoryx2_pal_concurrency_sync::strategy::rwlock::{RwLockWriterPreference, RwWriterPass};
-use iceoryx2_pal_concurrency_sync::{
-    WaitAction, WaitResult, WaitWord, wake_nobody, yield_and_go_on,
+use super::{give_up, nothing};
+use iceoryx2_pal_concurrency_sync::strategy::rwlock::{
+    RwHold, RwLockWriterPreference, RwWriterPass,
 };
-use std::alloc::{AllocError, Global};
+use iceoryx2_pal_concurrency_sync::{
+    WaitAction, WaitResult, WaitWord, in_threads, wake_nobody, yield_and_go_on,
+};
 use std::sync::Wait;
 use std::sync::atomic::{AtomicU64, Ordering};
 use std::test::Fail;
 use std::thread;
 use std::thread::Threads;
 use test_signal::{Gathering, Meeting};
-
-/// A new lock, and two parts of its pass.
-fn in_two_parts(
-    alloc: Global,
-) -> Result<(RwLockWriterPreference, RwWriterPass, RwWriterPass), AllocError>
-    ensures own { IfOk result (λ made. IsRwWriterPass made.0 made.1 × IsRwWriterPass made.0 made.2) }
-{
-    let (lock, pass) = RwLockWriterPreference::new(alloc)?;
-    match pass.split(&lock) {
-        Ok((one, two)) => Ok((lock, one, two)),
-        Err(_) => unreachable!(),
-    }
-}
-
-/// A new lock, and three parts of its pass.
-fn in_three_parts(
-    alloc: Global,
-) -> Result<
-    (
-        RwLockWriterPreference,
-        RwWriterPass,
-        RwWriterPass,
-        RwWriterPass,
-    ),
-    AllocError,
->
-    ensures own { IfOk result (λ made. IsRwWriterPass made.0 made.1 × IsRwWriterPass made.0 made.2 × IsRwWriterPass made.0 made.3) }
-{
-    let (lock, one, rest) = in_two_parts(alloc)?;
-    match rest.split(&lock) {
-        Ok((two, three)) => Ok((lock, one, two, three)),
-        Err(_) => unreachable!(),
-    }
-}
 
 /// Locks for reading and unlocks, with a closure that yields and answers `Continue`: that is never interrupted.
 fn read_and_unlock<R: Wait>(rt: &R, lock: &RwLockWriterPreference, pass: &mut RwWriterPass)
@@ -130,97 +96,37 @@ fn write_often<R: Wait>(
     pass
 }
 
-/// One thread reads and another writes, with the parts of this pass, which has no hold before and after.
-#[tactic(auto, using(running_rw_hold::proofs::RwJoins::nobody_joins))]
-fn two_threads<R: Threads + Wait + Sync>(
+/// Reads or writes so, whichever its turn is.
+fn read_or_write_often<R: Wait>(
     rt: &R,
     lock: &RwLockWriterPreference,
     pass: RwWriterPass,
+    turns: &AtomicU64,
 ) -> RwWriterPass
     requires own { IsRwWriterPass lock.now pass }
-    requires off { (reads_of (pass_in pass) ≡ 0) × (writes_of (pass_in pass) ≡ 0) }
-    ensures same { object_of (pass_in result) ≡ object_of (pass_in pass) }
-    ensures off { (reads_of (pass_in result) ≡ 0) × (writes_of (pass_in result) ≡ 0) }
-    ensures again { IsAgain (part_in pass) (part_in result) }
+    ensures stayed { HasStayed pass result }
 {
-    let Ok((one, two)) = pass.split(lock) else {
-        unreachable!()
-    };
-    let (one, two) = thread::join(
-        rt,
-        || -> RwWriterPass
-            requires { IsRwWriterPass lock.now one }
-            ensures { HasStayed one result }
-        { read_often(rt, lock, one) },
-        || -> RwWriterPass
-            requires { IsRwWriterPass lock.now two }
-            ensures { HasStayed two result }
-        { write_often(rt, lock, two) },
-    );
-    let Ok(pass) = RwWriterPass::join(one, two, lock) else {
-        unreachable!()
-    };
-    pass
-}
-
-/// Two threads read and two write, likewise.
-#[tactic(auto, using(running_rw_hold::proofs::RwJoins::nobody_joins))]
-fn four_threads<R: Threads + Wait + Sync>(
-    rt: &R,
-    lock: &RwLockWriterPreference,
-    pass: RwWriterPass,
-) -> RwWriterPass
-    requires own { IsRwWriterPass lock.now pass }
-    requires off { (reads_of (pass_in pass) ≡ 0) × (writes_of (pass_in pass) ≡ 0) }
-    ensures same { object_of (pass_in result) ≡ object_of (pass_in pass) }
-    ensures off { (reads_of (pass_in result) ≡ 0) × (writes_of (pass_in result) ≡ 0) }
-    ensures again { IsAgain (part_in pass) (part_in result) }
-{
-    let Ok((one, two)) = pass.split(lock) else {
-        unreachable!()
-    };
-    let (one, two) = thread::join(
-        rt,
-        || -> RwWriterPass
-            requires { IsRwWriterPass lock.now one × (reads_of (pass_in one) ≡ 0) × (writes_of (pass_in one) ≡ 0) }
-            ensures { (object_of (pass_in result) ≡ object_of (pass_in one)) × (reads_of (pass_in result) ≡ 0) × (writes_of (pass_in result) ≡ 0) × IsAgain (part_in one) (part_in result) }
-        { two_threads(rt, lock, one) },
-        || -> RwWriterPass
-            requires { IsRwWriterPass lock.now two × (reads_of (pass_in two) ≡ 0) × (writes_of (pass_in two) ≡ 0) }
-            ensures { (object_of (pass_in result) ≡ object_of (pass_in two)) × (reads_of (pass_in result) ≡ 0) × (writes_of (pass_in result) ≡ 0) × IsAgain (part_in two) (part_in result) }
-        { two_threads(rt, lock, two) },
-    );
-    let Ok(pass) = RwWriterPass::join(one, two, lock) else {
-        unreachable!()
-    };
-    pass
+    if turns.fetch_add(1, Ordering::SeqCst) % 2 == 0 {
+        read_often(rt, lock, pass)
+    } else {
+        write_often(rt, lock, pass)
+    }
 }
 
 /// The word that is left after four threads read and four write, each two hundred times: no hold, and no mark.
-#[tactic(auto, using(running_rw_hold::proofs::RwJoins::nobody_joins))]
 fn storm<R: Threads + Wait + Sync>(rt: &R, lock: RwLockWriterPreference, pass: RwWriterPass) -> u64
     requires own { IsRwWriterPass lock pass }
     requires alone { IsAlone pass }
     ensures { result ≡ 0 }
 {
-    let Ok((one, two)) = pass.split(&lock) else {
-        unreachable!()
-    };
-    let shared = &lock;
-    let (one, two) = thread::join(
+    let (shared, turns) = (&lock, AtomicU64::new(0));
+    let pass = in_threads(
         rt,
-        || -> RwWriterPass
-            requires { IsRwWriterPass shared.now one × (reads_of (pass_in one) ≡ 0) × (writes_of (pass_in one) ≡ 0) }
-            ensures { (object_of (pass_in result) ≡ object_of (pass_in one)) × (reads_of (pass_in result) ≡ 0) × (writes_of (pass_in result) ≡ 0) × IsAgain (part_in one) (part_in result) }
-        { four_threads(rt, shared, one) },
-        || -> RwWriterPass
-            requires { IsRwWriterPass shared.now two × (reads_of (pass_in two) ≡ 0) × (writes_of (pass_in two) ≡ 0) }
-            ensures { (object_of (pass_in result) ≡ object_of (pass_in two)) × (reads_of (pass_in result) ≡ 0) × (writes_of (pass_in result) ≡ 0) × IsAgain (part_in two) (part_in result) }
-        { four_threads(rt, shared, two) },
+        shared,
+        pass,
+        8,
+        &|pass| { read_or_write_often(rt, shared, pass, &turns) },
     );
-    let Ok(pass) = RwWriterPass::join(one, two, &lock) else {
-        unreachable!()
-    };
     lock.close(pass)
 }
 
@@ -240,6 +146,17 @@ struct WriterLockParty<'l> {
     ghost own: { IsRwWriterPass lock.now pass },
 }
 
+impl<'l> WriterLockParty<'l> {
+    /// It, and a party of this kind, each with a part of the pass.
+    fn and(self, other: Kind) -> (WriterLockParty<'l>, WriterLockParty<'l>) {
+        let WriterLockParty { lock, pass, kind } = self;
+        let Ok((one, two)) = pass.split(lock) else {
+            unreachable!()
+        };
+        (party_of(lock, one, kind), party_of(lock, two, other))
+    }
+}
+
 impl Party for WriterLockParty<'_> {
     fn try_to<T, F: FnOnce() -> T>(&mut self, wakes: &Gathering, act: F) -> Option<T> {
         try_to(self.lock, &mut self.pass, self.kind, wakes, act)
@@ -256,6 +173,23 @@ impl Party for WriterLockParty<'_> {
     }
 }
 
+/// Unlocks. The wake closures are gathered.
+fn unlock_gathered<'p>(
+    hold: RwHold<'p, RwWriterPass>,
+    lock: &RwLockWriterPreference,
+    wakes: &Gathering,
+) -> &'p mut RwWriterPass
+    requires own { IsRwWriterPass lock.now (pass_of hold) }
+    ensures same_borrow { result.ghost_name ≡ borrow_of hold.entry }
+    ensures released { HasUnlocked hold.entry result.now }
+{
+    lock.unlock(
+        hold,
+        |counter| wakes.wake_one(counter.load()),
+        |word| wakes.wake_all(word.load()),
+    )
+}
+
 /// Tries to lock, acts while it has the hold, and unlocks: a party's `try_to`.
 fn try_to<T, F: FnOnce() -> T>(
     lock: &RwLockWriterPreference,
@@ -268,14 +202,12 @@ fn try_to<T, F: FnOnce() -> T>(
     requires may { F.IsAlwaysCallable act }
     ensures stayed { HasStayed pass.old pass.new }
 {
-    let wake_one = |counter: &WaitWord| wakes.wake_one(counter.load());
-    let wake_all = |word: &WaitWord| wakes.wake_all(word.load());
     match kind {
         Kind::Read => {
             match RwLockWriterPreference::try_read_lock(pass, lock) {
                 WaitResult::Success(hold) => {
                     let acted = act();
-                    lock.unlock(hold, wake_one, wake_all);
+                    unlock_gathered(hold, lock, wakes);
                     Some(acted)
                 }
                 WaitResult::Interrupted => None,
@@ -285,7 +217,7 @@ fn try_to<T, F: FnOnce() -> T>(
             match RwLockWriterPreference::try_write_lock(pass, lock) {
                 WaitResult::Success(hold) => {
                     let acted = act();
-                    lock.unlock(hold, wake_one, wake_all);
+                    unlock_gathered(hold, lock, wakes);
                     Some(acted)
                 }
                 WaitResult::Interrupted => None,
@@ -315,7 +247,7 @@ fn wait_to<T, R: Wait, W: Fn(&WaitWord, &u64) -> WaitAction, F: FnOnce() -> T>(
             match RwLockWriterPreference::read_lock(pass, lock, rt, wait) {
                 WaitResult::Success(hold) => {
                     let acted = act();
-                    lock.unlock(hold, wake_one, wake_all);
+                    unlock_gathered(hold, lock, wakes);
                     Some(acted)
                 }
                 WaitResult::Interrupted => None,
@@ -328,7 +260,7 @@ fn wait_to<T, R: Wait, W: Fn(&WaitWord, &u64) -> WaitAction, F: FnOnce() -> T>(
             match locked {
                 WaitResult::Success(hold) => {
                     let acted = act();
-                    lock.unlock(hold, wake_one, wake_all);
+                    unlock_gathered(hold, lock, wakes);
                     Some(acted)
                 }
                 WaitResult::Interrupted => None,
@@ -359,9 +291,8 @@ fn only_readers_enter_together(rt: HostRuntime) -> Result<(), Fail> {
         ),
         (Kind::Write, Kind::Write, (true, (true, (1, 0, 0)), false)),
     ] {
-        let (lock, one, two) = in_two_parts(rt.alloc())?;
-        let mut holder = party_of(&lock, one, held);
-        let mut other = party_of(&lock, two, asked);
+        let (lock, pass) = RwLockWriterPreference::new(rt.alloc())?;
+        let (mut holder, mut other) = party_of(&lock, pass, held).and(asked);
         let seen = party::refused_beside(&rt, &mut holder, &mut other);
         assert_eq!(rt; seen, Some(answers));
     }
@@ -388,9 +319,8 @@ fn give_up_beside<R: Wait>(
 /// first has left. A writer that waits is told the count: the first 0, and one that comes after one has given up and another has left 2.
 #[test]
 fn abort_wakes_and_counts(rt: HostRuntime) -> Result<(), Fail> {
-    let (lock, one, two) = in_two_parts(rt.alloc())?;
-    let mut reader = party_of(&lock, one, Kind::Read);
-    let mut writer = party_of(&lock, two, Kind::Write);
+    let (lock, pass) = RwLockWriterPreference::new(rt.alloc())?;
+    let (mut reader, mut writer) = party_of(&lock, pass, Kind::Read).and(Kind::Write);
     for (told, called) in [(0, (123, 12)), (2, (123, 232))] {
         let closures = Gathering::new();
         let answers = give_up_beside(&rt, &mut reader, &mut writer, &closures);
@@ -404,9 +334,8 @@ fn abort_wakes_and_counts(rt: HostRuntime) -> Result<(), Fail> {
 /// A writer that gives up beside a writer sets no mark, and so wakes nobody.
 #[test]
 fn abort_beside_a_writer_wakes_nobody(rt: HostRuntime) -> Result<(), Fail> {
-    let (lock, one, two) = in_two_parts(rt.alloc())?;
-    let mut holder = party_of(&lock, one, Kind::Write);
-    let mut writer = party_of(&lock, two, Kind::Write);
+    let (lock, pass) = RwLockWriterPreference::new(rt.alloc())?;
+    let (mut holder, mut writer) = party_of(&lock, pass, Kind::Write).and(Kind::Write);
     let closures = Gathering::new();
     let answers = give_up_beside(&rt, &mut holder, &mut writer, &closures);
     assert_eq!(rt;
@@ -429,7 +358,7 @@ fn gives_up_beside_a_reader<R: Wait>(
     match RwLockWriterPreference::try_read_lock(reader, lock) {
         WaitResult::Success(hold) => {
             let wakes = Gathering::new();
-            let wrote = wait_to(rt, lock, writer, Kind::Write, give_up, &wakes, || ());
+            let wrote = wait_to(rt, lock, writer, Kind::Write, give_up, &wakes, nothing);
             lock.unlock(hold, wake_nobody, wake_nobody);
             wrote.is_none()
         }
@@ -469,9 +398,8 @@ fn a_writer_that_gave_up_leaves_no_mark(rt: HostRuntime) -> Result<(), Fail> {
 /// then all, after its store of 0 and its count.
 #[test]
 fn a_free_lock_is_granted_unasked(rt: HostRuntime) -> Result<(), Fail> {
-    let (lock, one, two) = in_two_parts(rt.alloc())?;
-    let mut reader = party_of(&lock, one, Kind::Read);
-    let mut writer = party_of(&lock, two, Kind::Write);
+    let (lock, pass) = RwLockWriterPreference::new(rt.alloc())?;
+    let (mut reader, mut writer) = party_of(&lock, pass, Kind::Read).and(Kind::Write);
     let (by_reader, by_writer) = (Gathering::new(), Gathering::new());
     let read = party::wait_and_abort(&rt, &mut reader, &by_reader);
     let written = party::wait_and_abort(&rt, &mut writer, &by_writer);
@@ -490,11 +418,10 @@ fn two_calls_meet_and_success_after_abort(rt: HostRuntime) -> Result<(), Fail> {
         (Kind::Read, WaitAction::Continue, u64::MAX),
         (Kind::Write, WaitAction::Continue, 0),
     ] {
-        let (lock, one, two) = in_two_parts(rt.alloc())?;
-        let mut holder = party_of(&lock, one, Kind::Write);
-        let mut other = party_of(&lock, two, kind);
-        let met_and_noted = party::let_in_beside(&rt, &mut holder, &mut other, action);
-        assert_eq!(rt; met_and_noted, (true, Some((1, told, told))));
+        let (lock, pass) = RwLockWriterPreference::new(rt.alloc())?;
+        let (mut holder, mut other) = party_of(&lock, pass, Kind::Write).and(kind);
+        let met_and_noted = party::let_in_beside(&rt, &mut holder, &mut other, Some(action));
+        assert_eq!(rt; met_and_noted, (true, (true, (1, told, told))));
     }
     Ok(())
 }
@@ -518,20 +445,19 @@ fn read_until_asked(
 #[test]
 fn the_last_reader_wakes_the_writer(rt: HostRuntime) -> Result<(), Fail> {
     for action in [WaitAction::Abort, WaitAction::Continue] {
-        let (lock, one, two, three) = in_three_parts(rt.alloc())?;
-        let mut reader = party_of(&lock, one, Kind::Read);
-        let mut writer = party_of(&lock, two, Kind::Write);
-        let mut late = party_of(&lock, three, Kind::Read);
+        let (lock, pass) = RwLockWriterPreference::new(rt.alloc())?;
+        let (mut reader, others) = party_of(&lock, pass, Kind::Read).and(Kind::Write);
+        let (mut writer, mut late) = others.and(Kind::Read);
         let wakes = Gathering::new();
         let meeting = Meeting::of(2);
         let refused_and_noted = thread::join(
             &rt,
             || read_until_asked(&mut reader, &mut late, &wakes, &meeting),
-            || party::wait_for_unlock(&rt, &mut writer, &meeting, action),
+            || party::wait_for_unlock(&rt, &mut writer, &meeting, Some(action)),
         );
         assert_eq!(rt;
             (refused_and_noted, wakes.gathered()),
-            ((Some((true, true)), Some((1, 0, 0))), (2, 1))
+            ((Some((true, true)), (true, (1, 0, 0))), (2, 1))
         );
     }
     Ok(())

@@ -54,6 +54,7 @@ fn sleep<R: Wait>(
                 WaitAction::Continue
             }
         },
+        super::give_up,
     )?;
     if took {
         told.notified.give();

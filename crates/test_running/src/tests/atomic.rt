@@ -3,6 +3,7 @@ ghost use Rattle.running_atomic.specs.AtomicShown.{IsAtomicPass, HasStayed};
 
 use iceoryx2_pal_concurrency_sync::atomic::internal::AtomicInteger;
 use iceoryx2_pal_concurrency_sync::atomic::{Atomic, AtomicPass, Ordering};
+use iceoryx2_pal_concurrency_sync::in_threads;
 use std::alloc::{AllocError, Global};
 use std::sync::Wait;
 use std::sync::atomic::AtomicU64;
@@ -59,33 +60,23 @@ fn sums_wrap(rt: HostRuntime) -> Result<(), Fail> {
     Ok(())
 }
 
-/// What an exchange answers, and the value after it.
+/// What an exchange answers, or a weak one, and the value after it.
 fn exchange<R: Wait>(
     rt: &R,
     atomic: &Atomic<u64>,
     pass: &mut AtomicPass<u64>,
+    is_weak: bool,
     current: u64,
     new: u64,
 ) -> (Result<u64, u64>, u64)
     requires own { IsAtomicPass atomic.now pass.old }
     ensures stayed { HasStayed pass.old pass.new }
 {
+    if is_weak {
+        let answer = atomic.compare_exchange_weak(rt, pass, current, new, ORDER, ORDER);
+        return (answer, atomic.load(rt, pass, ORDER));
+    }
     let answer = atomic.compare_exchange(rt, pass, current, new, ORDER, ORDER);
-    (answer, atomic.load(rt, pass, ORDER))
-}
-
-/// The same of a weak one.
-fn exchange_weak<R: Wait>(
-    rt: &R,
-    atomic: &Atomic<u64>,
-    pass: &mut AtomicPass<u64>,
-    current: u64,
-    new: u64,
-) -> (Result<u64, u64>, u64)
-    requires own { IsAtomicPass atomic.now pass.old }
-    ensures stayed { HasStayed pass.old pass.new }
-{
-    let answer = atomic.compare_exchange_weak(rt, pass, current, new, ORDER, ORDER);
     (answer, atomic.load(rt, pass, ORDER))
 }
 
@@ -93,10 +84,10 @@ fn exchange_weak<R: Wait>(
 fn exchanges_compare(rt: HostRuntime) -> Result<(), Fail> {
     let (atomic, mut pass) = Atomic::<u64>::new(rt.alloc(), 7)?;
     let exchanges = [
-        exchange(&rt, &atomic, &mut pass, 8, 9),
-        exchange(&rt, &atomic, &mut pass, 7, 9),
-        exchange_weak(&rt, &atomic, &mut pass, 7, 3),
-        exchange_weak(&rt, &atomic, &mut pass, 9, 3),
+        exchange(&rt, &atomic, &mut pass, false, 8, 9),
+        exchange(&rt, &atomic, &mut pass, false, 7, 9),
+        exchange(&rt, &atomic, &mut pass, true, 7, 3),
+        exchange(&rt, &atomic, &mut pass, true, 9, 3),
     ];
     assert_eq!(rt;
         (exchanges, atomic.into_inner(pass)),
@@ -201,73 +192,46 @@ fn a_shown_atomic_prints_its_value(rt: HostRuntime) -> Result<(), Fail> {
     Ok(())
 }
 
-/// Adds 1 so many times.
-fn add_often<R: Wait>(
-    rt: &R,
-    atomic: &Atomic<u64>,
-    mut pass: AtomicPass<u64>,
-    times: u64,
-) -> AtomicPass<u64>
+/// Adds 1 a thousand times.
+fn add_often<R: Wait>(rt: &R, atomic: &Atomic<u64>, mut pass: AtomicPass<u64>) -> AtomicPass<u64>
     requires own { IsAtomicPass atomic.now pass }
     ensures stayed { HasStayed pass result }
 {
-    for _ in 0..times {
+    for _ in 0..1000u64 {
         atomic.fetch_add(rt, &mut pass, 1, ORDER);
     }
     pass
 }
 
 /// Two threads with the halves of a pass add 1 a thousand times each: what is loaded then, and at the end.
-fn passes_meet<R: Threads + Wait + Sync>(
-    rt: &R,
-    atomic: Atomic<u64>,
-    pass: AtomicPass<u64>,
-) -> (u64, u64)
-    requires own { IsAtomicPass atomic pass }
-{
-    let shared = &atomic;
-    let Ok((one, two)) = pass.split(shared) else {
-        unreachable!()
-    };
-    let (one, two) = thread::join(
-        rt,
-        || -> AtomicPass<u64>
-            requires { IsAtomicPass shared.now one }
-            ensures { HasStayed one result }
-        { add_often(rt, shared, one, 1000) },
-        || -> AtomicPass<u64>
-            requires { IsAtomicPass shared.now two }
-            ensures { HasStayed two result }
-        { add_often(rt, shared, two, 1000) },
-    );
-    let Ok(mut pass) = AtomicPass::join(one, two, &atomic) else {
-        unreachable!()
-    };
-    let loaded = atomic.load(rt, &mut pass, ORDER);
-    (loaded, atomic.into_inner(pass))
-}
-
 #[test]
 fn two_threads_add(rt: HostRuntime) -> Result<(), Fail> {
     let (atomic, pass) = Atomic::<u64>::new(rt.alloc(), 0)?;
-    assert_eq!(rt; passes_meet(&rt, atomic, pass), (2000, 2000));
+    let mut pass = in_threads(
+        &rt,
+        &atomic,
+        pass,
+        2,
+        &|pass| { add_often(&rt, &atomic, pass) },
+    );
+    let loaded = atomic.load(&rt, &mut pass, ORDER);
+    assert_eq!(rt; (loaded, atomic.into_inner(pass)), (2000, 2000));
     Ok(())
 }
 
 /// What is added to a wide value: half of it carries from the low word into the high one.
 const STRIDE: u128 = (1 << 64) + (1 << 63);
 
-/// Adds a stride so many times.
+/// Adds a stride a thousand times.
 fn stride_often<R: Wait>(
     rt: &R,
     atomic: &Atomic<u128>,
     mut pass: AtomicPass<u128>,
-    times: u64,
 ) -> AtomicPass<u128>
     requires own { IsAtomicPass atomic.now pass }
     ensures stayed { HasStayed pass result }
 {
-    for _ in 0..times {
+    for _ in 0..1000u64 {
         atomic.fetch_add(rt, &mut pass, STRIDE, ORDER);
     }
     pass
@@ -291,35 +255,6 @@ fn count_torn<R: Wait>(
     torn
 }
 
-/// Two threads with the halves of a pass add strides, and the halves are one again.
-fn stride_in_two_threads<R: Threads + Wait + Sync>(
-    rt: &R,
-    atomic: &Atomic<u128>,
-    pass: AtomicPass<u128>,
-) -> AtomicPass<u128>
-    requires own { IsAtomicPass atomic.now pass }
-    ensures own { IsAtomicPass atomic.now result }
-{
-    let Ok((one, two)) = pass.split(atomic) else {
-        unreachable!()
-    };
-    let (one, two) = thread::join(
-        rt,
-        || -> AtomicPass<u128>
-            requires { IsAtomicPass atomic.now one }
-            ensures { HasStayed one result }
-        { stride_often(rt, atomic, one, 1000) },
-        || -> AtomicPass<u128>
-            requires { IsAtomicPass atomic.now two }
-            ensures { HasStayed two result }
-        { stride_often(rt, atomic, two, 1000) },
-    );
-    let Ok(pass) = AtomicPass::join(one, two, atomic) else {
-        unreachable!()
-    };
-    pass
-}
-
 /// Two threads add strides, while a third loads: how often it sees a torn value, and the value at the end.
 fn watch_strides<R: Threads + Wait + Sync>(
     rt: &R,
@@ -340,7 +275,15 @@ fn watch_strides<R: Threads + Wait + Sync>(
         || -> AtomicPass<u128>
             requires { IsAtomicPass shared.now adding }
             ensures { IsAtomicPass shared.entry.now result }
-        { stride_in_two_threads(rt, shared, adding) },
+        {
+            in_threads(
+                rt,
+                shared,
+                adding,
+                2,
+                &|pass| { stride_often(rt, shared, pass) },
+            )
+        },
     );
     (torn, atomic.into_inner(added))
 }

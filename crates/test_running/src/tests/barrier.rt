@@ -32,65 +32,19 @@ fn in_two_parts(
     }
 }
 
-/// What a `wait` did: its answer, how often it called its wait closure and its wake closure, and the word that the wake closure saw.
-fn wait_counted<R: Wait>(
-    rt: &R,
-    barrier: &Barrier,
-    pass: &mut BarrierPass,
-) -> (Result<(), BarrierFull>, u64, u64, u64)
-    requires { IsBarrierPass barrier.now pass.old }
-    ensures { IsSamePass pass.old pass.new }
-{
-    let waits = AtomicU64::new(0);
-    let wakes = AtomicU64::new(0);
-    let saw = AtomicU64::new(9);
-    let answer = barrier.wait(
-        rt,
-        pass,
-        |_, _| {
-            waits.fetch_add(1, Ordering::SeqCst);
-        },
-        |word| {
-            wakes.fetch_add(1, Ordering::SeqCst);
-            saw.store(word.load(), Ordering::SeqCst);
-        },
-    );
-    let waits = waits.load(Ordering::SeqCst);
-    let wakes = wakes.load(Ordering::SeqCst);
-    (answer, waits, wakes, saw.load(Ordering::SeqCst))
-}
+/// What a closure noted: how often it was called, and at first what its word held and it was told.
+type Noted = (u64, u64, u64);
 
-#[test]
-fn a_barrier_of_none_is_full(rt: HostRuntime) -> Result<(), Fail> {
-    let (barrier, mut pass) = Barrier::new(rt.alloc(), 0)?;
-    let first = wait_counted(&rt, &barrier, &mut pass);
-    let second = wait_counted(&rt, &barrier, &mut pass);
-    let full = (Err(BarrierFull), 0, 0, 9);
-    assert_eq!(rt; (first, second), (full, full));
-    Ok(())
-}
-
-#[test]
-fn a_barrier_of_one_opens_at_each_call(rt: HostRuntime) -> Result<(), Fail> {
-    let (barrier, mut pass) = Barrier::new(rt.alloc(), 1)?;
-    let first = wait_counted(&rt, &barrier, &mut pass);
-    let second = wait_counted(&rt, &barrier, &mut pass);
-    assert_eq!(rt;
-        (first, second),
-        ((Ok(()), 0, 1, 4_294_967_296), (Ok(()), 0, 1, 8_589_934_592))
-    );
-    Ok(())
-}
-
-/// Waits, and tells when its closure is asked. What that was told first, and what its word held then, unless the barrier was full.
-fn wait_first<R: Wait>(
+/// A `wait`: its answer, and what its wait closure noted. That tells, too, that it was asked; the wake closure notes its calls.
+fn wait_noted<R: Wait>(
     rt: &R,
     barrier: &Barrier,
     pass: &mut BarrierPass,
     asked: &Signal,
-    wakes: &AtomicU64,
-) -> Result<(u64, u64), BarrierFull>
+    wakes: &Notes,
+) -> (Result<(), BarrierFull>, Noted)
     requires { IsBarrierPass barrier.now pass.old }
+    ensures { IsSamePass pass.old pass.new }
 {
     let notes = Notes::new();
     let answer = barrier.wait(
@@ -101,65 +55,96 @@ fn wait_first<R: Wait>(
             asked.give();
             thread::yield_now();
         },
-        |_| {
-            wakes.fetch_add(1, Ordering::SeqCst);
-        },
+        |word| wakes.note(word.load(), 0),
     );
-    let (_calls, held, told) = notes.noted();
-    match answer {
-        Ok(()) => Ok((told, held)),
-        Err(full) => Err(full),
-    }
+    (answer, notes.noted())
 }
 
-/// Waits once the other thread's closure was asked, and tells whether it was, unless the barrier was full.
+/// A `wait` that meets nobody, and what its wake closure noted.
+fn wait_alone<R: Wait>(
+    rt: &R,
+    barrier: &Barrier,
+    pass: &mut BarrierPass,
+) -> ((Result<(), BarrierFull>, Noted), Noted)
+    requires { IsBarrierPass barrier.now pass.old }
+    ensures { IsSamePass pass.old pass.new }
+{
+    let wakes = Notes::new();
+    let waited = wait_noted(rt, barrier, pass, &Signal::new(), &wakes);
+    (waited, wakes.noted())
+}
+
+const NEVER: Noted = (0, 0, 0);
+
+#[test]
+fn a_barrier_of_none_is_full(rt: HostRuntime) -> Result<(), Fail> {
+    let (barrier, mut pass) = Barrier::new(rt.alloc(), 0)?;
+    let first = wait_alone(&rt, &barrier, &mut pass);
+    let second = wait_alone(&rt, &barrier, &mut pass);
+    let full = ((Err(BarrierFull), NEVER), NEVER);
+    assert_eq!(rt; (first, second), (full, full));
+    Ok(())
+}
+
+#[test]
+fn a_barrier_of_one_opens_at_each_call(rt: HostRuntime) -> Result<(), Fail> {
+    let (barrier, mut pass) = Barrier::new(rt.alloc(), 1)?;
+    let first = wait_alone(&rt, &barrier, &mut pass);
+    let second = wait_alone(&rt, &barrier, &mut pass);
+    let passed = (Ok(()), NEVER);
+    assert_eq!(rt;
+        (first, second),
+        (
+            (passed, (1, 4_294_967_296, 0)),
+            (passed, (1, 8_589_934_592, 0))
+        )
+    );
+    Ok(())
+}
+
+/// Waits once the other thread's closure was asked. Whether it was, and the answer.
 fn wait_second<R: Wait>(
     rt: &R,
     barrier: &Barrier,
     pass: &mut BarrierPass,
     asked: &Signal,
-    wakes: &AtomicU64,
-) -> Result<bool, BarrierFull>
+    wakes: &Notes,
+) -> (bool, Result<(), BarrierFull>)
     requires { IsBarrierPass barrier.now pass.old }
 {
     let was_asked = asked.awaited();
-    let answer = barrier.wait(rt, pass, yield_once, |_| {
-        wakes.fetch_add(1, Ordering::SeqCst);
-    });
-    match answer {
-        Ok(()) => Ok(was_asked),
-        Err(full) => Err(full),
-    }
+    let (answer, _) = wait_noted(rt, barrier, pass, asked, wakes);
+    (was_asked, answer)
 }
 
-/// Two threads wait at a new barrier of two, the second once the first has asked its closure. What both came to, and how often a wake
-/// closure was called.
+/// Two threads wait at a new barrier of two, the second once the first has asked its closure. What the first was answered, what its word
+/// held and it was told when it first asked, and what the second came to; and how often a wake closure was called.
 fn wait_one_after_the_other<R: Threads + Wait + Sync>(
     rt: &R,
     alloc: Global,
 ) -> Result<
     (
-        Result<(u64, u64), BarrierFull>,
-        Result<bool, BarrierFull>,
+        (Result<(), BarrierFull>, (u64, u64)),
+        (bool, Result<(), BarrierFull>),
         u64,
     ),
     AllocError,
 > {
     let (barrier, mut one, mut two) = in_two_parts(alloc, 2)?;
-    let (asked, wakes) = (Signal::new(), AtomicU64::new(0));
-    let (first, second) = thread::join(
+    let (asked, wakes) = (Signal::new(), Notes::new());
+    let ((answer, (_, held, told)), second) = thread::join(
         rt,
-        || wait_first(rt, &barrier, &mut one, &asked, &wakes),
+        || wait_noted(rt, &barrier, &mut one, &asked, &wakes),
         || wait_second(rt, &barrier, &mut two, &asked, &wakes),
     );
-    Ok((first, second, wakes.load(Ordering::SeqCst)))
+    Ok(((answer, (held, told)), second, wakes.noted().0))
 }
 
 /// The second call arrives only after the first has asked its closure, so both calls are under way at once.
 #[test]
 fn a_barrier_of_two(rt: HostRuntime) -> Result<(), Fail> {
     let waited = wait_one_after_the_other(&rt, rt.alloc())?;
-    assert_eq!(rt; waited, (Ok((1, 1)), Ok(true), 1));
+    assert_eq!(rt; waited, ((Ok(()), (1, 1)), (true, Ok(())), 1));
     Ok(())
 }
 

@@ -2,8 +2,9 @@
 ghost use Rattle.std.specs.Prelude.{◌≡◌, IfOk};
 ghost use Rattle.running_passes.specs.Parts.{IsWhole};
 ghost use Rattle.running_passes.specs.Passes.{IsSamePass};
-ghost use Rattle.running_once.specs.OnceShown.{IsOncePass, IsComplete, ended_of, part_of_once, pass_in};
+ghost use Rattle.running_once.specs.OnceShown.{IsOncePass, IsComplete, HasCompleted, ended_of, part_of_once, pass_in};
 
+use iceoryx2_pal_concurrency_sync::in_threads;
 use iceoryx2_pal_concurrency_sync::once::{Once, OncePass};
 use std::alloc::{AllocError, Global};
 use std::sync::Wait;
@@ -88,64 +89,27 @@ struct Work {
     runs: AtomicU64,
     /// What the closure made.
     made: AtomicU64,
+    /// How many calls saw all that the closure did.
+    saw: AtomicU64,
 }
 
-/// Waits until all four threads are here, calls with a closure that takes its time, and tells whether it sees all that the closure did.
-fn meet_and_call<R: Wait>(rt: &R, once: &Once, pass: &mut OncePass, work: &Work) -> bool
-    requires { IsOncePass once.now pass.old }
-    ensures { IsSamePass (pass_in pass.old) (pass_in pass.new) }
+/// Waits until all four threads are here, and calls with a closure that takes its time. Counts whether it sees all that the closure did.
+fn meet_and_call<R: Wait>(rt: &R, once: &Once, mut pass: OncePass, work: &Work) -> OncePass
+    requires own { IsOncePass once.now pass }
+    ensures completed { HasCompleted pass result }
 {
     let came = work.meeting.meet();
-    once.call_once(rt, pass, || {
+    once.call_once(rt, &mut pass, || {
         work.runs.fetch_add(1, Ordering::SeqCst);
         for _ in 0..100u64 {
             thread::yield_now();
         }
         work.made.store(7, Ordering::SeqCst);
     });
-    came && work.made.load(Ordering::SeqCst) == 7
-}
-
-fn meet_in_two_threads<R: Threads + Wait + Sync>(
-    rt: &R,
-    once: &Once,
-    pass: OncePass,
-    work: &Work,
-) -> bool
-    requires { IsOncePass once.now pass }
-{
-    let Ok((mut one, mut two)) = pass.split(once) else {
-        unreachable!()
-    };
-    let (first, second) = thread::join(
-        rt,
-        || meet_and_call(rt, once, &mut one, work),
-        || meet_and_call(rt, once, &mut two, work),
-    );
-    first && second
-}
-
-fn meet_in_four_threads<R: Threads + Wait + Sync>(
-    rt: &R,
-    once: &Once,
-    pass: OncePass,
-    work: &Work,
-) -> bool
-    requires { IsOncePass once.now pass }
-{
-    let Ok((one, two)) = pass.split(once) else {
-        unreachable!()
-    };
-    let (first, second) = thread::join(
-        rt,
-        || -> bool
-            requires { IsOncePass once.now one }
-        { meet_in_two_threads(rt, once, one, work) },
-        || -> bool
-            requires { IsOncePass once.now two }
-        { meet_in_two_threads(rt, once, two, work) },
-    );
-    first && second
+    if came && work.made.load(Ordering::SeqCst) == 7 {
+        work.saw.fetch_add(1, Ordering::SeqCst);
+    }
+    pass
 }
 
 #[test]
@@ -155,9 +119,20 @@ fn of_four_threads_one_runs_its_closure(rt: HostRuntime) -> Result<(), Fail> {
         meeting: Meeting::of(4),
         runs: AtomicU64::new(0),
         made: AtomicU64::new(0),
+        saw: AtomicU64::new(0),
     };
-    let all_saw = meet_in_four_threads(&rt, &once, pass, &work);
-    assert_eq!(rt; (all_saw, work.runs.load(Ordering::SeqCst)), (true, 1));
+    in_threads(
+        &rt,
+        &once,
+        pass,
+        4,
+        &|pass| { meet_and_call(&rt, &once, pass, &work) },
+    );
+    let (runs, saw) = (
+        work.runs.load(Ordering::SeqCst),
+        work.saw.load(Ordering::SeqCst),
+    );
+    assert_eq!(rt; (runs, saw), (1, 4));
     Ok(())
 }
 

@@ -9,14 +9,15 @@ ghost use Rattle.running_tallies.specs.SemaphoreRule.{first_permits};
 ghost use Rattle.running_semaphore.specs.SemaphoreShown.{IsSemPass, HasCounted, given_of, taken_of};
 
 use iceoryx2_pal_concurrency_sync::strategy::semaphore::{SemPass, Semaphore};
-use iceoryx2_pal_concurrency_sync::{WaitAction, WaitResult, wake_nobody, yield_and_go_on};
+use iceoryx2_pal_concurrency_sync::{
+    WaitAction, WaitResult, WaitWord, wake_nobody, yield_and_go_on,
+};
 use std::alloc::{AllocError, Global};
 use std::sync::Wait;
-use std::sync::atomic::{AtomicU64, Ordering};
 use std::test::Fail;
 use std::thread;
 use std::thread::Threads;
-use test_signal::{Gathering, Meeting, Notes, Signal};
+use test_signal::{Gathering, Meeting, Notes};
 
 /// A new semaphore of so many permits, and two parts of its pass.
 pub(super) fn in_two_parts(
@@ -88,8 +89,9 @@ fn post_gathered(semaphore: &Semaphore, pass: &mut SemPass) -> (u64, u64)
     requires { IsSemPass semaphore.now pass.old }
 {
     let gathering = Gathering::new();
-    semaphore.post(pass, |word| gathering.wake_one(word.load()), 0);
-    semaphore.post(pass, |word| gathering.wake_one(word.load()), 1);
+    let wake = |word: &WaitWord| gathering.wake_one(word.load());
+    semaphore.post(pass, wake, 0);
+    semaphore.post(pass, wake, 1);
     gathering.gathered()
 }
 
@@ -100,28 +102,37 @@ fn post_wakes_once_after_its_add(rt: HostRuntime) -> Result<(), Fail> {
     Ok(())
 }
 
-/// A `wait` whose wait closure answers `Abort` at once: its answer, and what the closure noted.
-fn wait_and_abort<R: Wait>(
+/// What a wait was answered, and what its closure noted: how often it was called, and at first what its word held and it was told.
+type Waited = (WaitResult<()>, (u64, u64, u64));
+
+/// A `wait` whose wait closure answers so once the other thread has posted; without an answer it answers `Abort` at once.
+fn wait_noted<R: Wait>(
     rt: &R,
     semaphore: &Semaphore,
     pass: &mut SemPass,
-) -> (WaitResult<()>, (u64, u64, u64))
+    meeting: &Meeting,
+    answer: Option<WaitAction>,
+) -> Waited
     requires { IsSemPass semaphore.now pass.old }
     ensures { IsSamePass pass.old pass.new }
 {
     let notes = Notes::new();
-    let answer = semaphore.wait(rt, pass, |word, seen| {
+    let waited = semaphore.wait(rt, pass, |word, seen| {
         notes.note(word.load(), *seen);
-        WaitAction::Abort
+        match answer {
+            Some(action) if meeting.meet() && meeting.meet() => action,
+            _ => WaitAction::Abort,
+        }
     });
-    (answer, notes.noted())
+    (waited, notes.noted())
 }
 
 #[test]
 fn a_waiter_aborts(rt: HostRuntime) -> Result<(), Fail> {
     let (semaphore, mut pass) = Semaphore::new(rt.alloc(), 1)?;
-    let first = wait_and_abort(&rt, &semaphore, &mut pass);
-    let second = wait_and_abort(&rt, &semaphore, &mut pass);
+    let nobody = Meeting::of(1);
+    let first = wait_noted(&rt, &semaphore, &mut pass, &nobody, None);
+    let second = wait_noted(&rt, &semaphore, &mut pass, &nobody, None);
     assert_eq!(rt;
         (first, second, semaphore.close(pass)),
         (
@@ -133,59 +144,7 @@ fn a_waiter_aborts(rt: HostRuntime) -> Result<(), Fail> {
     Ok(())
 }
 
-/// Posts 1 once the other thread's call is over, or asks again.
-fn post_when_over(semaphore: &Semaphore, pass: &mut SemPass, over: &Signal) -> bool
-    requires { IsSemPass semaphore.now pass.old }
-{
-    let was_over = over.awaited();
-    semaphore.post(pass, wake_nobody, 1);
-    was_over
-}
-
-/// Waits with a closure that answers `Abort` at once, and says so should it be asked again.
-fn wait_until_over<R: Wait>(
-    rt: &R,
-    semaphore: &Semaphore,
-    pass: &mut SemPass,
-    over: &Signal,
-) -> (WaitResult<()>, u64)
-    requires { IsSemPass semaphore.now pass.old }
-{
-    let calls = AtomicU64::new(0);
-    let answer = semaphore.wait(rt, pass, |_, _| {
-        if calls.fetch_add(1, Ordering::SeqCst) > 0 {
-            over.give();
-        }
-        WaitAction::Abort
-    });
-    over.give();
-    (answer, calls.load(Ordering::SeqCst))
-}
-
-/// One thread posts once the call of another is over, whose closure answers `Abort`. Whether that came, what the other was answered, and
-/// how often its closure was asked.
-fn post_after_an_abort<R: Threads + Wait + Sync>(
-    rt: &R,
-    alloc: Global,
-) -> Result<(bool, (WaitResult<()>, u64)), AllocError> {
-    let (semaphore, mut one, mut two) = in_two_parts(alloc, 0)?;
-    let over = Signal::new();
-    Ok(thread::join(
-        rt,
-        || post_when_over(&semaphore, &mut one, &over),
-        || wait_until_over(rt, &semaphore, &mut two, &over),
-    ))
-}
-
-/// A call that went on after `Abort` would take what the other thread then posts.
-#[test]
-fn an_abort_is_obeyed(rt: HostRuntime) -> Result<(), Fail> {
-    let over_and_answer = post_after_an_abort(&rt, rt.alloc())?;
-    assert_eq!(rt; over_and_answer, (true, (WaitResult::Interrupted, 1)));
-    Ok(())
-}
-
-/// Posts 1 once the other thread asks. Whether that came.
+/// Posts 1 once the other thread asks, or its call is over. Whether that came.
 fn post_when_asked(semaphore: &Semaphore, pass: &mut SemPass, meeting: &Meeting) -> bool
     requires { IsSemPass semaphore.now pass.old }
 {
@@ -194,52 +153,54 @@ fn post_when_asked(semaphore: &Semaphore, pass: &mut SemPass, meeting: &Meeting)
     was_asked && meeting.meet()
 }
 
-/// Waits with a closure that answers so once the other thread has posted. What the closure noted, too.
-fn wait_until_posted<R: Wait>(
+/// Waits so, and without an answer lets the other thread post once the call is over. Whether that came, too.
+fn wait_beside<R: Wait>(
     rt: &R,
     semaphore: &Semaphore,
     pass: &mut SemPass,
     meeting: &Meeting,
-    action: WaitAction,
-) -> (WaitResult<()>, (u64, u64, u64))
+    answer: Option<WaitAction>,
+) -> (Waited, bool)
     requires { IsSemPass semaphore.now pass.old }
 {
-    let notes = Notes::new();
-    let answer = semaphore.wait(rt, pass, |word, seen| {
-        notes.note(word.load(), *seen);
-        if meeting.meet() && meeting.meet() {
-            action
-        } else {
-            WaitAction::Abort
-        }
-    });
-    (answer, notes.noted())
+    let waited = wait_noted(rt, semaphore, pass, meeting, answer);
+    (waited, answer.is_some() || meeting.meet() && meeting.meet())
 }
 
-/// One thread posts once another has asked its closure, which answers so. Whether that came, what the other was answered, and what its
-/// closure noted.
+/// One thread posts to a semaphore of 0 once another has asked its closure, which answers so, or once its call is over. Whether that came,
+/// and what the other came to.
 fn post_beside_a_waiter<R: Threads + Wait + Sync>(
     rt: &R,
     alloc: Global,
-    action: WaitAction,
-) -> Result<(bool, (WaitResult<()>, (u64, u64, u64))), AllocError> {
+    answer: Option<WaitAction>,
+) -> Result<(bool, (Waited, bool)), AllocError> {
     let (semaphore, mut one, mut two) = in_two_parts(alloc, 0)?;
     let meeting = Meeting::of(2);
     Ok(thread::join(
         rt,
         || post_when_asked(&semaphore, &mut one, &meeting),
-        || wait_until_posted(rt, &semaphore, &mut two, &meeting, action),
+        || wait_beside(rt, &semaphore, &mut two, &meeting, answer),
     ))
+}
+
+/// A call that went on after `Abort` would ask again, and take what the other thread then posts.
+#[test]
+fn an_abort_is_obeyed(rt: HostRuntime) -> Result<(), Fail> {
+    let gave_up = (WaitResult::Interrupted, (1, 0, 0));
+    assert_eq!(rt;
+        post_beside_a_waiter(&rt, rt.alloc(), None)?,
+        (true, (gave_up, true))
+    );
+    Ok(())
 }
 
 /// The call looks once more, whatever its closure answers.
 #[test]
 fn success_after_abort(rt: HostRuntime) -> Result<(), Fail> {
     for action in [WaitAction::Abort, WaitAction::Continue] {
-        let met_and_answer = post_beside_a_waiter(&rt, rt.alloc(), action)?;
         assert_eq!(rt;
-            met_and_answer,
-            (true, (WaitResult::Success(()), (1, 0, 0)))
+            post_beside_a_waiter(&rt, rt.alloc(), Some(action))?,
+            (true, ((WaitResult::Success(()), (1, 0, 0)), true))
         );
     }
     Ok(())

@@ -2,61 +2,40 @@
 ghost use Rattle.running_spin_lock.specs.SpinShown.{IsSpinPass, HasStayed};
 
 use super::{is_refused, value_if_free};
+use iceoryx2_pal_concurrency_sync::in_threads;
 use iceoryx2_pal_concurrency_sync::spin_lock::{SpinLock, SpinPass};
-use std::alloc::AllocError;
 use std::sync::Wait;
+use std::sync::atomic::{AtomicU64, Ordering};
 use std::test::Fail;
 use std::thread;
 use std::thread::Threads;
 use test_signal::Signal;
 
-/// Pushes these numbers under one guard, and tells whether there was memory.
-fn push_all<R: Wait>(
+/// Pushes 1, or 2 and 3, whichever its turn is, under one guard. Counts the numbers for which there was memory.
+fn push_in_turn<R: Wait>(
     rt: &R,
     lock: &SpinLock<Vec<u64>>,
     mut pass: SpinPass,
-    numbers: &[u64],
-) -> (SpinPass, bool)
+    turns: &AtomicU64,
+    pushed: &AtomicU64,
+) -> SpinPass
     requires own { IsSpinPass lock.now pass }
-    ensures stayed { HasStayed pass result.0 }
+    ensures stayed { HasStayed pass result }
 {
-    let pushed = {
+    let is_first = turns.fetch_add(1, Ordering::SeqCst) == 0;
+    {
         let mut guard = SpinLock::blocking_lock(&mut pass, lock, rt);
-        extend(&mut guard, numbers).is_ok()
-    };
-    (pass, pushed)
-}
-
-fn extend(list: &mut Vec<u64>, numbers: &[u64]) -> Result<(), AllocError> {
-    for number in numbers {
-        list.push(*number)?;
+        pushed.fetch_add(push_all(&mut guard, is_first), Ordering::SeqCst);
     }
-    Ok(())
+    pass
 }
 
-/// Two threads push numbers, one of them two under one guard. Whether there was memory for all.
-fn push_in_two_threads<R: Threads + Wait + Sync>(
-    rt: &R,
-    lock: &SpinLock<Vec<u64>>,
-    pass: SpinPass,
-) -> (SpinPass, bool)
-    requires own { IsSpinPass lock.now pass }
-    ensures own { IsSpinPass lock.now result.0 }
-{
-    let Ok((one, two)) = pass.split(lock) else {
-        unreachable!()
-    };
-    let ((one, first), (_, second)) = thread::join(
-        rt,
-        || -> (SpinPass, bool)
-            requires { IsSpinPass lock.now one }
-            ensures { HasStayed one result.0 }
-        { push_all(rt, lock, one, &[1]) },
-        || -> (SpinPass, bool)
-            requires { IsSpinPass lock.now two }
-        { push_all(rt, lock, two, &[2, 3]) },
-    );
-    (one, first && second)
+/// Pushes 1, or else 2 and 3. How many there was memory for.
+fn push_all(list: &mut Vec<u64>, is_first: bool) -> u64 {
+    if is_first {
+        return u64::from(list.push(1).is_ok());
+    }
+    u64::from(list.push(2).is_ok()) + u64::from(list.push(3).is_ok())
 }
 
 /// Whether the lock is free, and its list what the two threads make by turns.
@@ -72,54 +51,40 @@ fn has_all(lock: &SpinLock<Vec<u64>>, pass: &mut SpinPass) -> bool
     }
 }
 
+/// Two threads push numbers, one of them two under one guard.
 #[test]
 fn two_threads_push_under_their_guards(rt: HostRuntime) -> Result<(), Fail> {
     let (lock, pass) = SpinLock::new(rt.alloc(), Vec::new(rt.alloc()))?;
-    let (mut one, pushed) = push_in_two_threads(&rt, &lock, pass);
-    assert!(rt; pushed && has_all(&lock, &mut one));
+    let (turns, pushed) = (AtomicU64::new(0), AtomicU64::new(0));
+    let mut pass = in_threads(
+        &rt,
+        &lock,
+        pass,
+        2,
+        &|pass| { push_in_turn(&rt, &lock, pass, &turns, &pushed) },
+    );
+    let pushed = pushed.load(Ordering::SeqCst);
+    assert_eq!(rt; (pushed, has_all(&lock, &mut pass)), (3, true));
     Ok(())
 }
 
-/// Adds 1 to the value, so often.
-fn count_up<R: Wait>(rt: &R, lock: &SpinLock<u64>, mut pass: SpinPass, times: u64) -> SpinPass
+/// Adds 1 to the value 2500 times.
+fn count_up<R: Wait>(rt: &R, lock: &SpinLock<u64>, mut pass: SpinPass) -> SpinPass
     requires own { IsSpinPass lock.now pass }
     ensures stayed { HasStayed pass result }
 {
-    for _ in 0..times {
+    for _ in 0..2500u64 {
         let mut guard = SpinLock::blocking_lock(&mut pass, lock, rt);
         *guard = guard.wrapping_add(1);
     }
     pass
 }
 
-/// Two threads count up. The value then, if the lock is free.
-fn count_in_two_threads<R: Threads + Wait + Sync>(
-    rt: &R,
-    lock: &SpinLock<u64>,
-    pass: SpinPass,
-) -> Option<u64>
-    requires own { IsSpinPass lock.now pass }
-{
-    let Ok((one, two)) = pass.split(lock) else {
-        unreachable!()
-    };
-    let (mut one, _) = thread::join(
-        rt,
-        || -> SpinPass
-            requires { IsSpinPass lock.now one }
-            ensures { HasStayed one result }
-        { count_up(rt, lock, one, 2000) },
-        || -> SpinPass
-            requires { IsSpinPass lock.now two }
-        { count_up(rt, lock, two, 3000) },
-    );
-    value_if_free(lock, &mut one)
-}
-
 #[test]
 fn no_addition_is_lost(rt: HostRuntime) -> Result<(), Fail> {
     let (lock, pass) = SpinLock::new(rt.alloc(), 0u64)?;
-    assert_eq!(rt; count_in_two_threads(&rt, &lock, pass), Some(5000));
+    let mut pass = in_threads(&rt, &lock, pass, 2, &|pass| { count_up(&rt, &lock, pass) });
+    assert_eq!(rt; value_if_free(&lock, &mut pass), Some(5000));
     Ok(())
 }
 

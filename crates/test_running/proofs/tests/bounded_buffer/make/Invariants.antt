@@ -1,5 +1,4 @@
 use Rattle.std.proofs.Common.{◌≡◌}
-use Rattle.running_spin_lock.specs.SpinShown.{HasStayed as HasSpunAtMost}
 use Rattle.running_mutex.specs.MutexShown.{pass_of, borrow_of, HasStayed as HasLockedAtMost}
 use Rattle.running_mutex.specs.CondShown.{HasStayed as HasWaitedAtMost}
 use Rattle.test_running.proofs.tests.bounded_buffer.make.Given as goal
@@ -9,5 +8,4 @@ invariant-loop g l = record {
   same_borrow : borrow_of l.held ≡ borrow_of l.initial.held;
   locked : HasLockedAtMost (pass_of l.initial.held) (pass_of l.held);
   waited : HasWaitedAtMost l.fn.waits l.waits;
-  spun : HasSpunAtMost l.fn.pass l.pass;
 }
