@@ -1,5 +1,5 @@
 use Rattle.running_rw_writer.specs.RwWriterShown.{HasStayed}
-use Rattle.test_rw_value.proofs.tests.threads.count_up.Given as goal
+use Rattle.test_values.proofs.tests.rw_value.threads.count_up.Given as goal
 
 abbrev pub invariant-loop : goal.invariant-loop
 invariant-loop g l = record { stayed : HasStayed l.fn.pass l.pass }

@@ -1,5 +1,5 @@
 use Rattle.job_queue.specs.QueueShown.{IsQueuePass}
-use Rattle.test_queue.proofs.tests.queue.room_in.Given as goal
+use Rattle.test_values.proofs.tests.queue.queue.room_in.Given as goal
 
 abbrev pub invariant-loop-job : goal.invariant-loop-job
 invariant-loop-job g l = IsQueuePass l.fn.queue l.pass
