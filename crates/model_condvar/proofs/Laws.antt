@@ -125,12 +125,6 @@ notify_law :
     EventLaw party past n hold (Some c) (record { act = act; outcome = cond ends (Then.Answers Answer.Done) Then.GoesOn })
 notify_law party past n hold c wake act ends h1 h2 h3 h4 h5 = grind (arith, nat_tests, eqb-true, eqb-false)
 
--- of a call of the mutex: its law there is its law here
-
--- it has to do with the mutex's word alone
-
--- none of these answers a number
-
 -- what the two laws say of a call by its kind is the same
 
 mutex_event :

@@ -98,13 +98,7 @@ ready_kept {T} =
       chooses = λ place c hold choice number ready stands. (condvar_kept.chooses place c hold choice number ready.0 stands, chooses_seen place c hold choice number ready.0 ready.1 stands);
     }
 
--- How each step leaves its call, by its tests.
-
 -- So each step is the next.
-
--- a call of the mutex
-
--- a notify
 
 -- a `Wait` that is counted, by what it does and how it leaves the call, for a call that asks so
 

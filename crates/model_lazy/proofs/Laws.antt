@@ -39,8 +39,6 @@ pub record AtLazy {T : Type 0} (place : LazyPlace) (c : PendingCall T) (hold : O
   pub own : IsAt place c hold
   pub led : IsWhereLed place c.own
 
--- Where a call begins.
-
 -- Where a step leads.
 
 -- no call of a lazy value stands, but an answer of a closure would change nothing

@@ -19,8 +19,6 @@ AtOnce OncePlace.Look c hold = last_of is_step c.own ≡ None
 AtOnce OncePlace.Stay c hold = has_missed c.own ≡ true
 AtOnce place c hold = Unit {0}
 
--- Where a call begins.
-
 -- Where a step leads.
 
 -- how a call goes on after a look, by whether it saw 2

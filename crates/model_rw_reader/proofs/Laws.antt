@@ -23,17 +23,11 @@ AtRwReader (RwReaderPlace.Write patience) c hold = (c.call ≡ Call.WriteLock) �
 AtRwReader RwReaderPlace.Release c hold = (c.call ≡ Call.Unlock) × (is_some hold ≡ true)
 AtRwReader RwReaderPlace.Wake c hold = c.call ≡ Call.Unlock
 
--- Where a call begins.
-
 -- Where a step leads.
 
 -- how `ReadLock` goes on after a look, by whether a reader may enter
 abbrev pub read_after : {T : Type 0} → Patience → ℕ → Bool → After T RwReaderPlace
 read_after patience v b = cond b (After.At (RwReaderPlace.Read v (v + 1) patience)) (within RwReaderPlace.ReadLook (refused patience v))
-
--- a reader's exchange is none of a writer
-
--- a call that tries once ends with its exchange
 
 -- Where an answer leads.
 

@@ -21,14 +21,6 @@ AtSemaphore (SemaphorePlace.TryTake seen to) c hold = (c.call ≡ Call.TryWait) 
 AtSemaphore (SemaphorePlace.Look patience) c hold = (c.call ≡ Call.Wait) × AtWait (SemaphorePlace.Look patience) c.own × (permits_seen c.own ≡ 0)
 AtSemaphore (SemaphorePlace.Take seen to patience) c hold = (c.call ≡ Call.Wait) × AtWait (SemaphorePlace.Take seen to patience) c.own × (permits_seen c.own ≡ seen)
 
--- Where a call begins.
-
--- Where a step leads.
-
--- after an exchange of a `Wait`, by whether it was done
-
--- an exchange from the value seen, by whether it was done
-
 -- Where an answer leads.
 
 pub semaphore_kept : {T : Type 0} (initial : ℕ) → IsKept {T = T} (semaphore_table initial) AtSemaphore
@@ -57,10 +49,6 @@ pub record LookLaw {T : Type 0} (initial party : ℕ) (past : List (Event T)) (c
   pub answered : IfSome (number_answered outcome) (λ v. v ≡ w)
   pub cause : MatchBool (is_refusal outcome) (SemaphoreCause initial c.call party (event party act outcome ∷ past)) (Unit {0})
   pub asks : WhereAsked IsAskedSo (Some c) act outcome
-
--- a load of the word
-
--- an exchange from the value seen, by whether it was done
 
 -- What follows a step, by its kind.
 

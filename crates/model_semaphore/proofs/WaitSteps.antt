@@ -36,5 +36,3 @@ pub wait_leads :
     {T : Type 0} (word : Word) (place : SemaphorePlace) (own : List (Event T)) (number : ℕ) (memory : Word → ℕ) → AtWait place own →
     WaitLeads {T = T} word own number (carried_out (semaphore_intent word place) memory) (semaphore_after place (value_told {T = T} (carried_out (semaphore_intent word place) memory)))
 wait_leads word place own number memory h1 = grind (arith, nat_tests, eqb-true, eqb-false)
-
--- what a step does to the word: nothing, or it takes a permit where the word is not 0
