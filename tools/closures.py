@@ -4,9 +4,9 @@
     python3 tools/closures.py [ROOT]
 
 A running call hands its caller's closure on to `running_model`, which calls it where the call of the model stands at that. What types and clauses
-leave open is told by lines: a closure of the library's own, handed on in its place; a closure that a body calls; how a pass comes to a step,
-said by the body itself; a step that no turn makes. Each such line stands in tools/closures.txt, with what it is for. Prints those that do not, and those of the
-list that are gone, and then how many there are. The status is 0 where both agree.
+leave open is told by lines: a closure of the library's own, handed on in its place, or a function that could be; a closure that a body calls; how a
+pass comes to a step, said by the body itself; a step that no turn makes. Each such line stands in tools/closures.txt, with what it is for. Prints those
+that do not, and those of the list that are gone, and then how many there are. The status is 0 where both agree.
 """
 import pathlib
 import re
@@ -17,6 +17,10 @@ CALLED = re.compile(r"(?<![\w.:])(?:running_passes::wake|wait|wakeup|wake|wake_o
 # A step on a table or on words that is no turn's: a turn's names the rule or the object first.
 STEP = re.compile(r"(?:\.|::)(?:(?:load|store|swap|fetch_\w+|compare_exchange\w*|\w+_new_seat)::<(?!_,)|learn\()")
 SAID = re.compile(r"(?<!fn )\bspend\(|\bBy::<|::<(?:\w+, )*Brand\b|^impl\b.*\bWay<")
+# A function that could be handed on by its name: one that is told a word, as wait and wake closures are; and those of `running_closures`.
+NAMED = re.compile(r"^(?:(?:pub(?:\([^)]*\))? |const )*fn \w+(?:<.*>)?\()?\w+: &(?:\w+::)*(?:WaitWord|CountedWait)\b|\brunning_closures\b")
+# What a call hands on to choose by, or to run, is its caller's.
+HANDED = re.compile(r"\.(?:choose|run)\(.*, (?!f\))\w+\)")
 COMING = re.compile(r"^ghost coming = \{ (?:λ \w+\. )?(\w+)")
 # What the running types share or hand in, which has no call of a model.
 SHARED = {"running_passes", "running_tallies", "running_sharing", "running_closures"}
@@ -28,6 +32,8 @@ def tells(line, is_playing):
     coming = COMING.match(line)
     if coming:
         return not is_playing and coming[1] not in BEGINS
+    if not is_playing and (NAMED.search(line) or HANDED.search(line)) and not line.startswith("//"):
+        return True
     if line.startswith(("//", "ghost", "requires", "ensures", "fn ", "pub fn ", "pub(crate) fn ")):
         return False
     return bool(LITERAL.search(line) or CALLED.search(line) or not is_playing and (SAID.search(line) or STEP.search(line)))
