@@ -1,12 +1,12 @@
 -- The data words and the register, at every prefix of every run.
-use Rattle.model_atomic.specs.Names.{MatchOption, not, WaitAction, Word, Call, Act, Answer, Event, Input, Then, HoldKind, After, Arithmetic, IsValue, IsClosed, carried_out, value_told, outcome_of, place_after, Table, Hold, PendingCall, call_of, call_after, call_going_on, latest_outcome, holds_of, hold_of, word_in, word_after, event, writes_in, Move, go_fault, stage_of, next_stage, step_at, fault_at, choose_fault, CallValues, InputValues, IsPast, CountsHolds, lets_readers_in}
-use Rattle.model_atomic.proofs.Names.{◌≡◌, ◌≢◌, ℕ, ◌+◌, ◌-◌, ◌^◌, ◌<◌, ◌==◌, refl, sym, ◌∙◌, ap, subst, Bool, true, false, cond, List, [], ◌∷◌, Option, Some, None, ◌⊎◌, inl, inr, arith, eqb-true, eqb_tells, some_same, call_of_same, call_of_other, eqb_same, counted_of, fault_at_none, by_move, carried_goes_on, carried_stage, eqb-false, nat_tests}
+use Rattle.model_atomic.specs.Names.{MatchOption, WaitAction, Word, Call, Act, Answer, Event, Input, Then, HoldKind, After, Arithmetic, IsValue, IsClosed, carried_out, value_told, outcome_of, place_after, Table, PendingCall, call_of, call_after, latest_outcome, holds_of, hold_of, word_in, word_after, event, writes_in, Move, go_fault, stage_of, next_stage, step_at, fault_at, choose_fault, CallValues, InputValues, IsPast, CountsHolds}
+use Rattle.model_atomic.proofs.Names.{◌≡◌, ◌≢◌, ℕ, ◌==◌, refl, sym, ◌∙◌, ap, subst, true, false, List, [], ◌∷◌, Option, Some, None, ◌⊎◌, inl, inr, arith, eqb-true, eqb_tells, some_same, call_of_same, call_of_other, eqb_same, counted_of, fault_at_none, by_move, carried_goes_on, carried_stage, eqb-false, nat_tests}
 use Rattle.model_events.proofs.Locks.{holds_after}
 use Rattle.model_atomic.specs.declared.AtomicPlace.{AtomicPlace}
-use Rattle.model_atomic.specs.Register.{act_of, compared, choice_of, HasChosen, low_told, is_last, acted, register_after, answer_in, answer_of, acts_made}
-use Rattle.model_atomic.specs.Table.{look_at, puts, inside, knows, compares, atomic_grant, atomic_table}
+use Rattle.model_atomic.specs.Register.{act_of, choice_of, HasChosen, low_told, is_last, acted, register_after, answer_in, answer_of, acts_made}
+use Rattle.model_atomic.specs.Table.{puts, knows, atomic_table}
 use Rattle.model_atomic.specs.Law.{DataIsRegister, AnswersAsRegister, LatestAnswers, KeepsAtomic}
-use Rattle.model_atomic.proofs.Places.{Looks, Asks, AtAtomic, begins_at, here}
+use Rattle.model_atomic.proofs.Places.{Looks, AtAtomic, begins_at, here}
 use Rattle.model_atomic.proofs.Laws.{keeps_lock, causes}
 use Rattle.model_atomic.proofs.Apart.{alone, accesses, writes_alone, few_accesses, rests_without}
 use Rattle.model_atomic.proofs.NextSteps.{each_steps}
@@ -50,10 +50,6 @@ DataAt z d owed (AtomicPlace.Leave answer) c = Tied z d × (owed ≡ Some answer
 -- a call without the lock knows nothing of the data
 outside : {T : Type 0} (z : Arithmetic T) (d : Data T) (owed : Option (Answer T)) (place : AtomicPlace T) (c : PendingCall T) → AtAtomic z place c None → DataAt z d owed place c
 outside z d owed place c h1 = grind (arith, nat_tests, eqb-true, eqb-false)
-
--- where no writer may be the word says so
-unwritten_at : (w : ℕ) (holds : List Hold) → CountsHolds w holds → w < 2 ^ 64 - 2 → writes_in holds ≡ 0
-unwritten_at w holds h1 h2 = grind (arith, nat_tests, eqb-true, eqb-false)
 
 -- what is so at a prefix, of the data and of each call under way
 pub record AtPrefix {T : Type 0} (z : Arithmetic T) (v : T) (past : List (Event T)) : Type 0 where
@@ -121,24 +117,7 @@ module _ {T : Type 0} (z : Arithmetic T) (v : T) (past : List (Event T)) (party 
       ((next : AtomicPlace T) → place_after (t.after place (value_told (carried_out (t.intent place hold) memory))) ≡ Some next →
       D next (record { call = c.call; own = event party (step_at t place hold memory).act (step_at t place hold memory).outcome ∷ c.own })) →
       (c' : PendingCall T) (place' : AtomicPlace T) → call_after (step_at t place hold memory).outcome (event party (step_at t place hold memory).act (step_at t place hold memory).outcome) (Some c) ≡ Some c' → stage_of t c' ≡ Some place' → D place' c'
-  goes_to place c hold memory D stage next c' place' = by_after (t.after place (value_told act)) refl
-    where
-      act : Act T
-      act = (step_at t place hold memory).act
-
-      on : (a : After T (AtomicPlace T)) → t.after place (value_told act) ≡ a → call_going_on act (event party act (outcome_of a)) (Some c) ≡ Some c' → stage_of t c' ≡ Some place' → D place' c'
-      on a is goes at =
-          let e : Event T = event party act (outcome_of a) in
-          let longer : PendingCall T = record { call = c.call; own = e ∷ c.own } in
-          let same : longer ≡ c' = some_same longer c' (sym (carried_goes_on (t.intent place hold) memory e c) ∙ goes) in
-          let leads : place_after (t.after place (value_told act)) ≡ Some place' = sym (ap (next_stage t act) stage ∙ carried_stage t place (t.intent place hold) memory) ∙ subst (λ (x : PendingCall T). stage_of t x ≡ Some place') (sym same) at in
-          subst (D place') same (subst (λ (x : After T (AtomicPlace T)). D place' (record { call = c.call; own = event party act (outcome_of x) ∷ c.own })) is (next place' leads))
-
-      by_after : (a : After T (AtomicPlace T)) → t.after place (value_told act) ≡ a → call_after (outcome_of a) (event party act (outcome_of a)) (Some c) ≡ Some c' → stage_of t c' ≡ Some place' → D place' c'
-      by_after (After.At q) is = on (After.At q) is
-      by_after (After.Waits q seen) is = on (After.Waits q seen) is
-      by_after (After.Chooses q old) is = on (After.Chooses q old) is
-      by_after (After.Ends answer) is = λ ends at. absurd cc
+  goes_to place c hold memory D h1 h2 c' place' h3 h4 = grind (arith, nat_tests, eqb-true, eqb-false, carried_goes_on, carried_stage, some_same)
 
   -- at the place that is next
   at_next : (D : AtomicPlace T → Type 0) (place next : AtomicPlace T) → Some place ≡ Some next → D place → D next
@@ -153,67 +132,17 @@ module _ {T : Type 0} (z : Arithmetic T) (v : T) (past : List (Event T)) (party 
     counts : CountsHolds (word_in t past Word.State) (holds_of t past)
     counts = (keeps_lock z v parties past run).counts
 
-    no_writer : word_in t past Word.State < 2 ^ 64 - 2 → Tied z d
-    no_writer small = before.tied (unwritten_at (word_in t past Word.State) (holds_of t past) counts small)
-
     steps_look : stage_of t c ≡ Some AtomicPlace.Look → Step AtomicPlace.Look
-    steps_look stage = quiet (Some c) (step_at t AtomicPlace.Look (hold_of t party past) (word_in t past)) refl before.tied
-        (goes_to AtomicPlace.Look c (hold_of t party past) (word_in t past) (λ p x. DataAt z d owed p x) stage (λ next is. by_look (lets_readers_in (word_in t past Word.State)) next _ is)) tt
-      where
-        by_look : (b : Bool) (next : AtomicPlace T) (x : PendingCall T) → ◌≡◌ {A = Option (AtomicPlace T)} (Some (cond b (AtomicPlace.Enter (word_in t past Word.State) (word_in t past Word.State + 1)) AtomicPlace.Look)) (Some next) → DataAt z d owed next x
-        by_look true next x is = at_next (λ p. DataAt z d owed p x) (AtomicPlace.Enter _ _) next is tt
-        by_look false next x is = at_next (λ p. DataAt z d owed p x) AtomicPlace.Look next is tt
-
-    look_again : (w : ℕ) (b : Bool) (next : AtomicPlace T) (x : PendingCall T) → ◌≡◌ {A = Option (AtomicPlace T)} (Some (cond b (AtomicPlace.Enter w (w + 1)) AtomicPlace.Look)) (Some next) → DataAt z d owed next x
-    look_again w true next x is = at_next (λ p. DataAt z d owed p x) (AtomicPlace.Enter _ _) next is tt
-    look_again w false next x is = at_next (λ p. DataAt z d owed p x) AtomicPlace.Look next is tt
-
-    -- a reader comes in where no writer is
-    entered : (seen to w : ℕ) (b : Bool) → (w == seen) ≡ b → seen < 2 ^ 64 - 2 → (w ≡ word_in t past Word.State) → c.call ≡ Call.Load → (next : AtomicPlace T) (x : PendingCall T) → ◌≡◌ {A = Option (AtomicPlace T)} (Some (cond b (AtomicPlace.Low Call.Load) (look_at w))) (Some next) → DataAt z d owed next x
-    entered seen to w true found small here load next x is =
-        let same = eqb-true w seen found in
-        at_next (λ p. DataAt z d owed p x) (AtomicPlace.Low Call.Load) next is (no_writer (omega (arith, same, small, here)))
-    entered seen to w false found small here load next x is = look_again w (lets_readers_in w) next x is
-
-    holds_entered : (seen to w : ℕ) (b : Bool) → atomic_grant c.call ≡ Some HoldKind.Read → writes_in (holds_after t party (Some c) (Act.Exchange Word.State seen to w b) (holds_of t past)) ≡ 0 → writes_in (holds_of t past) ≡ 0
-    holds_entered seen to w false grants none = none
-    holds_entered seen to w true grants none = let zero_more : 0 + writes_in (holds_of t past) ≡ 0 = rw grants at none in omega (arith, zero_more)
+    steps_look h1 = grind (arith, nat_tests, eqb-true, eqb-false, at_next, goes_to, quiet)
 
     steps_enter : (seen to : ℕ) → stage_of t c ≡ Some (AtomicPlace.Enter seen to) → AtAtomic z (AtomicPlace.Enter seen to) c (hold_of t party past) → Step (AtomicPlace.Enter seen to)
-    steps_enter seen to stage at =
-        let w = word_in t past Word.State in
-        quiet (Some c) (step_at t (AtomicPlace.Enter seen to) (hold_of t party past) (word_in t past)) refl
-        (λ none. before.tied (holds_entered seen to w (w == seen) (ap (λ (k : Call T). atomic_grant k) at.0) none))
-        (goes_to (AtomicPlace.Enter seen to) c (hold_of t party past) (word_in t past) (λ p x. DataAt z d owed p x) stage (λ next is. entered seen to w (w == seen) refl at.2.1 refl at.0 next _ is)) tt
-
-    -- with the lock for writing
-    inside_data : (call : Call T) (next : AtomicPlace T) (own : List (Event T)) → CallValues z call → Tied z d → ◌≡◌ {A = Option (AtomicPlace T)} (Some (inside z call)) (Some next) → DataAt z d owed next (record { call = call; own = own })
-    inside_data (Call.Store x) next own values tied is = at_next (λ p. DataAt z d owed p (record { call = Call.Store x; own = own })) (puts z x Answer.Done) next is (record { new = x; is_value = values; low_is = refl; high_is = refl; act_is = refl })
-    inside_data other next own values tied is = at_next (λ p. DataAt z d owed p (record { call = other; own = own })) (AtomicPlace.Low other) next is tied
-
-    took : (call : Call T) (w : ℕ) (b : Bool) → (w == 0) ≡ b → (w ≡ word_in t past Word.State) → CallValues z call → (next : AtomicPlace T) (own : List (Event T)) → ◌≡◌ {A = Option (AtomicPlace T)} (Some (cond b (inside z call) (AtomicPlace.Take call))) (Some next) →
-        DataAt z d owed next (record { call = call; own = own })
-    took call w true found here values next own is =
-        let zero_is = eqb-true w 0 found in
-        inside_data call next own values (no_writer (omega (arith, zero_is, here))) is
-    took call w false found here values next own is = at_next (λ p. DataAt z d owed p (record { call = call; own = own })) (AtomicPlace.Take call) next is tt
-
-    holds_taken : (w : ℕ) (b : Bool) → atomic_grant c.call ≡ Some HoldKind.Write → writes_in (holds_after t party (Some c) (Act.Exchange Word.State 0 (2 ^ 64 - 1) w b) (holds_of t past)) ≡ 0 → writes_in (holds_of t past) ≡ 0
-    holds_taken w false grants none = none
-    holds_taken w true grants none = let one : 1 + writes_in (holds_of t past) ≡ 0 = rw grants at none in absurd (omega (arith, one))
+    steps_enter seen to h1 h2 = grind (arith, nat_tests, eqb-true, eqb-false, goes_to, quiet, at_next, counts, here)
 
     steps_take : (call : Call T) → stage_of t c ≡ Some (AtomicPlace.Take call) → AtAtomic z (AtomicPlace.Take call) c (hold_of t party past) → Step (AtomicPlace.Take call)
-    steps_take call stage at =
-        let w = word_in t past Word.State in
-        quiet (Some c) (step_at t (AtomicPlace.Take call) (hold_of t party past) (word_in t past)) refl
-        (λ none. before.tied (holds_taken w (w == 0) (ap (λ (k : Call T). atomic_grant k) at.0 ∙ at.2) none))
-        (goes_to (AtomicPlace.Take call) c (hold_of t party past) (word_in t past) (λ p x. DataAt z d owed p x) stage
-        (λ next is. subst (λ (k : Call T). DataAt z d owed next (record { call = k; own = event party (Act.Exchange Word.State 0 (2 ^ 64 - 1) w (w == 0)) Then.GoesOn ∷ c.own })) (sym at.0) (took call w (w == 0) refl refl at.3 next _ is))) tt
+    steps_take call h1 h2 = grind (arith, nat_tests, eqb-true, eqb-false, goes_to, quiet, at_next, counts, here)
 
     steps_low : (call : Call T) → stage_of t c ≡ Some (AtomicPlace.Low call) → Tied z d → Step (AtomicPlace.Low call)
-    steps_low call stage tied =
-        quiet (Some c) (step_at t (AtomicPlace.Low call) (hold_of t party past) (word_in t past)) refl before.tied
-        (goes_to (AtomicPlace.Low call) c (hold_of t party past) (word_in t past) (λ p x. DataAt z d owed p x) stage (λ next is. at_next (λ p. DataAt z d owed p (record { call = c.call; own = event party (Act.Load Word.Low d.low) Then.GoesOn ∷ c.own })) (AtomicPlace.High call d.low) next is (tied, refl))) tt
+    steps_low call h1 h2 = grind (arith, nat_tests, eqb-true, eqb-false, at_next, goes_to, quiet)
 
     -- the load of the high word: the old value is the register's
     module _ (own : List (Event T)) (low : ℕ) (tied : Tied z d) (low_is : d.low ≡ low) (told : low_told own ≡ low) (unchosen : choice_of own ≡ None) where
@@ -234,98 +163,18 @@ module _ {T : Type 0} (z : Arithmetic T) (v : T) (past : List (Event T)) (party 
         own_next : (next : AtomicPlace T) → place_after (knows z call (z.of_words low d.high)) ≡ Some next → DataAt z d (answer_in z (Some (at_call call)) act d.value owed) next (to call (outcome_of (knows z call (z.of_words low d.high))))
         says : Says z d owed (Some (at_call call)) (outcome_of (knows z call (z.of_words low d.high)))
 
-      puts_next : (call : Call T) (new : T) (answer : Answer T) (o : Option (Answer T)) (next : AtomicPlace T) → IsValue z new → act_of z call (choice_of own) d.value ≡ (answer, new) → ◌≡◌ {A = Option (AtomicPlace T)} (Some (puts z new answer)) (Some next) → DataAt z d o next (to call Then.GoesOn)
-      puts_next call new answer o next value act_is is = at_next (λ p. DataAt z d o p (to call Then.GoesOn)) (puts z new answer) next is (record { new = new; is_value = value; low_is = refl; high_is = refl; act_is = act_is })
-
-      leaves_next : (call : Call T) (answer : Answer T) (o : Option (Answer T)) (next : AtomicPlace T) → o ≡ Some answer → ◌≡◌ {A = Option (AtomicPlace T)} (Some (AtomicPlace.Leave answer)) (Some next) → DataAt z d o next (to call Then.GoesOn)
-      leaves_next call answer o next says is = at_next (λ p. DataAt z d o p (to call Then.GoesOn)) (AtomicPlace.Leave answer) next is (tied, says)
-
-      old_value : IsValue z (z.of_words low d.high)
-      old_value = subst (IsValue z) (sym old_is) before.value
-
       -- where it adds, or writes otherwise what comes of the old value
       changes : (call : Call T) (f : T → T) → IsValue z (f (z.of_words low d.high)) → (knows z call (z.of_words low d.high) ≡ After.At (puts z (f (z.of_words low d.high)) (Answer.Value (z.of_words low d.high)))) → ((o : T) → act_of z call (choice_of own) o ≡ (Answer.Value o, f o)) → is_last z (at_call call) act ≡ false → High call
-      changes call f value goes act_is early = record {
-        same = rw early refl;
-        own_next = λ next is. subst (λ (a : After T (AtomicPlace T)). DataAt z d (answer_in z (Some (at_call call)) act d.value owed) next (to call (outcome_of a))) (sym goes)
-            (puts_next call (f (z.of_words low d.high)) (Answer.Value (z.of_words low d.high)) _ next value (act_is d.value ∙ ap (λ (o : T). (Answer.Value o, f o)) (sym old_is)) (sym (ap (λ (a : After T (AtomicPlace T)). place_after a) goes) ∙ is));
-        says = subst (λ (a : After T (AtomicPlace T)). Says z d owed (Some (at_call call)) (outcome_of a)) (sym goes) tt;
-      }
-
-      compares_data : (call : Call T) (current new : T) (b : Bool) → IsValue z new → z.same (z.of_words low d.high) current ≡ b → (knows z call (z.of_words low d.high) ≡ After.At (compares z b (z.of_words low d.high) new)) →
-          act_of z call (choice_of own) d.value ≡ compared (z.same d.value current) d.value new → is_last z (at_call call) act ≡ not b → High call
-      compares_data call current new true value sees goes act_is last =
-          let same_old : z.same d.value current ≡ true = ap (λ (o : T). z.same o current) (sym old_is) ∙ sees in
-          record {
-            same = rw last refl;
-            own_next = λ next is. subst (λ (a : After T (AtomicPlace T)). DataAt z d (answer_in z (Some (at_call call)) act d.value owed) next (to call (outcome_of a))) (sym goes)
-                (puts_next call new (Answer.OkOld (z.of_words low d.high)) _ next value (act_is ∙ ap (λ b. compared b d.value new) same_old ∙ ap (λ (o : T). (Answer.OkOld o, new)) (sym old_is)) (sym (ap (λ (a : After T (AtomicPlace T)). place_after a) goes) ∙ is));
-            says = subst (λ (a : After T (AtomicPlace T)). Says z d owed (Some (at_call call)) (outcome_of a)) (sym goes) tt;
-          }
-      compares_data call current new false value sees goes act_is last =
-          let same_old : z.same d.value current ≡ false = ap (λ (o : T). z.same o current) (sym old_is) ∙ sees in
-          let acts_so = act_is ∙ ap (λ b. compared b d.value new) same_old in
-          record {
-            same = rw (last, acts_so) refl;
-            own_next = λ next is. subst (λ (a : After T (AtomicPlace T)). DataAt z d (answer_in z (Some (at_call call)) act d.value owed) next (to call (outcome_of a))) (sym goes)
-                (leaves_next call (Answer.ErrOld (z.of_words low d.high)) _ next (rw (last, acts_so, old_is) refl) (sym (ap (λ (a : After T (AtomicPlace T)). place_after a) goes) ∙ is));
-            says = subst (λ (a : After T (AtomicPlace T)). Says z d owed (Some (at_call call)) (outcome_of a)) (sym goes) tt;
-          }
+      changes call f h1 h2 h3 h4 = grind (arith, nat_tests, eqb-true, eqb-false, old_is, at_next)
 
       high : (call : Call T) → Looks z call → High call
-      high Call.Load looks = record { same = refl; own_next = λ next is. leaves_next Call.Load (Answer.Value (z.of_words low d.high)) _ next (ap (λ (o : T). Some (Answer.Value o)) (sym old_is)) is; says = tt }
-      high (Call.Store x) looks = let no_store = looks.1 in absurd cc
-      high (Call.Swap x) looks = changes (Call.Swap x) (λ o. x) looks.2 refl (λ o. refl) refl
-      high (Call.CompareExchange c x) looks = compares_data (Call.CompareExchange c x) c x (z.same (z.of_words low d.high) c) looks.2.1 refl refl refl (ap (λ l. not (z.same (z.of_words l d.high) c)) told)
-      high (Call.CompareExchangeWeak c x) looks = compares_data (Call.CompareExchangeWeak c x) c x (z.same (z.of_words low d.high) c) looks.2.1 refl refl refl (ap (λ l. not (z.same (z.of_words l d.high) c)) told)
-      high (Call.FetchAdd x) looks = changes (Call.FetchAdd x) (λ o. z.add o x) (closed.add _ x old_value looks.2) refl (λ o. refl) refl
-      high (Call.FetchSub x) looks = changes (Call.FetchSub x) (λ o. z.subtract o x) (closed.subtract _ x old_value looks.2) refl (λ o. refl) refl
-      high (Call.FetchAnd x) looks = changes (Call.FetchAnd x) (λ o. z.and o x) (closed.and _ x old_value looks.2) refl (λ o. refl) refl
-      high (Call.FetchOr x) looks = changes (Call.FetchOr x) (λ o. z.or o x) (closed.or _ x old_value looks.2) refl (λ o. refl) refl
-      high (Call.FetchXor x) looks = changes (Call.FetchXor x) (λ o. z.xor o x) (closed.xor _ x old_value looks.2) refl (λ o. refl) refl
-      high (Call.FetchNand x) looks = changes (Call.FetchNand x) (λ o. z.inverse (z.and o x)) (closed.inverse _ (closed.and _ x old_value looks.2)) refl (λ o. refl) refl
-      high (Call.FetchMax x) looks = changes (Call.FetchMax x) (λ o. z.greater o x) (closed.greater _ x old_value looks.2) refl (λ o. refl) refl
-      high (Call.FetchMin x) looks = changes (Call.FetchMin x) (λ o. z.lesser o x) (closed.lesser _ x old_value looks.2) refl (λ o. refl) refl
-      high Call.FetchUpdate looks = record {
-        same = rw unchosen refl;
-        own_next = λ next is. at_next (λ p. DataAt z d (answer_in z (Some (at_call Call.FetchUpdate)) act d.value owed) p (to Call.FetchUpdate (Then.Chooses (z.of_words low d.high)))) (AtomicPlace.Again (z.of_words low d.high)) next is (tied, old_is);
-        says = (old_is, (refl, unchosen));
-      }
-      high other looks = let no_grant = looks.0 in absurd cc
+      high call h1 = grind (arith, nat_tests, eqb-true, eqb-false, at_next, changes, old_is)
 
     steps_high : (call : Call T) (low : ℕ) → stage_of t c ≡ Some (AtomicPlace.High call low) → AtAtomic z (AtomicPlace.High call low) c (hold_of t party past) → Tied z d → d.low ≡ low → Step (AtomicPlace.High call low)
-    steps_high call low stage at tied low_is =
-        let a : Act T = Act.Load Word.High d.high in
-        let known : High c.own low tied low_is at.4 at.3.unchosen call = high c.own low tied low_is at.4 at.3.unchosen call at.2 in
-        let same : acted z (Some c) a d.value ≡ d.value = subst (λ (k : Call T). acted z (Some (record { call = k; own = c.own })) a d.value ≡ d.value) (sym at.0) known.same in
-        quiet (Some c) (step_at t (AtomicPlace.High call low) (hold_of t party past) (word_in t past)) (λ i. record { low = d.low; high = d.high; value = same i }) before.tied
-        (goes_to (AtomicPlace.High call low) c (hold_of t party past) (word_in t past) (λ p x. DataAt z d (answer_in z (Some c) a d.value owed) p x) stage
-        (λ next is. subst (λ (k : Call T). DataAt z d (answer_in z (Some (record { call = k; own = c.own })) a d.value owed) next (record { call = k; own = event party a (outcome_of (knows z call (z.of_words low d.high))) ∷ c.own })) (sym at.0) (known.own_next next is)))
-        (subst (λ (k : Call T). Says z d owed (Some (record { call = k; own = c.own })) (outcome_of (knows z call (z.of_words low d.high)))) (sym at.0) known.says)
-
-    -- a `FetchUpdate` whose closure chose nothing looks once more
-    chose_none : (old : T) (own : List (Event T)) (hold : Option HoldKind) → Asks z old Call.FetchUpdate own hold → go_fault (latest_outcome own) ≡ None → choice_of own ≡ Some None
-    chose_none old own hold asks free = by_choice asks.chooses
-      where
-        by_choice : ((latest_outcome own ≡ Then.Chooses old) × (choice_of own ≡ None)) ⊎ ((latest_outcome own ≡ Then.GoesOn) × (choice_of own ≡ Some None)) → choice_of own ≡ Some None
-        by_choice (inl stands) = let no : go_fault {T = T} (Then.Chooses old) ≡ None = subst (λ (o : Then T). go_fault o ≡ None) stands.0 free in absurd cc
-        by_choice (inr chose) = chose.1
-
-    again_same : (own : List (Event T)) (w : ℕ) → choice_of own ≡ Some None → acted z (Some (record { call = Call.FetchUpdate; own = own })) (Act.Load Word.High w) d.value ≡ d.value
-    again_same own w chose = rw chose refl
-
-    again_answers : (own : List (Event T)) (w : ℕ) → choice_of own ≡ Some None → answer_in z (Some (record { call = Call.FetchUpdate; own = own })) (Act.Load Word.High w) d.value owed ≡ Some (Answer.ErrOld d.value)
-    again_answers own w chose = rw chose refl
+    steps_high call low h1 h2 h3 h4 = grind (arith, nat_tests, eqb-true, eqb-false, goes_to, high, quiet)
 
     steps_again : (old : T) → stage_of t c ≡ Some (AtomicPlace.Again old) → AtAtomic z (AtomicPlace.Again old) c (hold_of t party past) → go_fault (latest_outcome c.own) ≡ None → Tied z d → old ≡ d.value → Step (AtomicPlace.Again old)
-    steps_again old stage at free tied old_is =
-        let a : Act T = Act.Load Word.High d.high in
-        let chose : choice_of c.own ≡ Some None = chose_none old c.own (hold_of t party past) (subst (λ (k : Call T). Asks z old k c.own (hold_of t party past)) at.0 at.1) free in
-        let same : acted z (Some c) a d.value ≡ d.value = subst (λ (k : Call T). acted z (Some (record { call = k; own = c.own })) a d.value ≡ d.value) (sym at.0) (again_same c.own d.high chose) in
-        let says : answer_in z (Some c) a d.value owed ≡ Some (Answer.ErrOld d.value) = subst (λ (k : Call T). answer_in z (Some (record { call = k; own = c.own })) a d.value owed ≡ Some (Answer.ErrOld d.value)) (sym at.0) (again_answers c.own d.high chose) in
-        quiet (Some c) (step_at t (AtomicPlace.Again old) (hold_of t party past) (word_in t past)) (λ i. record { low = d.low; high = d.high; value = same i }) before.tied
-        (goes_to (AtomicPlace.Again old) c (hold_of t party past) (word_in t past) (λ p x. DataAt z d (answer_in z (Some c) a d.value owed) p x) stage
-        (λ next is. at_next (λ p. DataAt z d (answer_in z (Some c) a d.value owed) p (record { call = c.call; own = event party a Then.GoesOn ∷ c.own })) (AtomicPlace.Leave (Answer.ErrOld old)) next is (tied, says ∙ ap (λ (o : T). Some (Answer.ErrOld o)) (sym old_is)))) tt
+    steps_again old h1 h2 h3 h4 h5 = grind (arith, nat_tests, eqb-true, eqb-false, at_next, goes_to, high, old_is, quiet)
 
     -- a store of a data word, beside which nobody else has the lock
     nobody_else : hold_of t party past ≡ Some HoldKind.Write → (x : Data T) (q : ℕ) → q ≢ party → (k : PendingCall T) (place : AtomicPlace T) → call_of q past ≡ Some k → stage_of t k ≡ Some place → DataAt z x (answer_of z v q past) place k
@@ -333,40 +182,14 @@ module _ {T : Type 0} (z : Arithmetic T) (v : T) (past : List (Event T)) (party 
         let at = here z v parties past run q k place has stage in
         outside z x (answer_of z v q past) place k (subst (λ h. AtAtomic z place k h) (alone (word_in t past Word.State) party q (holds_of t past) counts held differ) at)
 
-    writes_some : hold_of t party past ≡ Some HoldKind.Write → writes_in (holds_of t past) ≡ 0 → ⊥
-    writes_some held none = let some = counted_of HoldKind.Write party (holds_of t past) held in omega (arith, some, none)
-
     steps_put_low : (low high : ℕ) (answer : Answer T) → stage_of t c ≡ Some (AtomicPlace.PutLow low high answer) → AtAtomic z (AtomicPlace.PutLow low high answer) c (hold_of t party past) → Will z d.value c low high answer → Step (AtomicPlace.PutLow low high answer)
-    steps_put_low low high answer stage at will =
-        let a : Act T = Act.Store Word.Low low in
-        record {
-          value = before.value;
-          tied = λ none. absurd (writes_some at.held none);
-          others = nobody_else at.held (data_after z d (Some c) a);
-          own = goes_to (AtomicPlace.PutLow low high answer) c (hold_of t party past) (word_in t past) (λ p x. DataAt z (data_after z d (Some c) a) owed p x) stage
-              (λ next is. at_next (λ p. DataAt z (data_after z d (Some c) a) owed p (record { call = c.call; own = event party a Then.GoesOn ∷ c.own })) (AtomicPlace.PutHigh high answer) next is
-              (record { new = will.new; is_value = will.is_value; low_is = will.low_is; high_is = will.high_is; act_is = will.act_is }));
-          says = tt;
-        }
+    steps_put_low low high answer h1 h2 h3 = grind (arith, nat_tests, eqb-true, eqb-false, at_next, goes_to, nobody_else, counted_of)
 
     steps_put_high : (high : ℕ) (answer : Answer T) → stage_of t c ≡ Some (AtomicPlace.PutHigh high answer) → AtAtomic z (AtomicPlace.PutHigh high answer) c (hold_of t party past) → Will z d.value c d.low high answer → Step (AtomicPlace.PutHigh high answer)
-    steps_put_high high answer stage at will =
-        let a : Act T = Act.Store Word.High high in
-        let now : (act_of z c.call (choice_of c.own) d.value).1 ≡ will.new = ap (λ (o : Answer T × T). o.1) will.act_is in
-        record {
-          value = subst (IsValue z) (sym now) will.is_value;
-          tied = λ none. absurd (writes_some at.held none);
-          others = nobody_else at.held (data_after z d (Some c) a);
-          own = goes_to (AtomicPlace.PutHigh high answer) c (hold_of t party past) (word_in t past) (λ p x. DataAt z (data_after z d (Some c) a) (answer_in z (Some c) a d.value owed) p x) stage
-              (λ next is. at_next (λ p. DataAt z (data_after z d (Some c) a) (answer_in z (Some c) a d.value owed) p (record { call = c.call; own = event party a Then.GoesOn ∷ c.own })) (AtomicPlace.Leave answer) next is
-              (ap (λ l. z.of_words l high) will.low_is ∙ ap (λ h. z.of_words (z.low will.new) h) will.high_is ∙ will.is_value ∙ sym now, ap (λ (o : Answer T × T). Some o.0) will.act_is));
-          says = tt;
-        }
+    steps_put_high high answer h1 h2 h3 = grind (arith, nat_tests, eqb-true, eqb-false, at_next, goes_to, nobody_else, counted_of)
 
     steps_leave : (answer : Answer T) (hold : Option HoldKind) → acts_made z c.call c.own ≡ 1 → HasChosen c.call (choice_of c.own) → Tied z d → owed ≡ Some answer → Moved z v past party (Some c) (step_at t (AtomicPlace.Leave answer) hold (word_in t past))
-    steps_leave answer None made chose tied says = quiet (Some c) (step_at t (AtomicPlace.Leave answer) None (word_in t past)) refl (λ none. tied) (λ x place ends stage. absurd cc) (says, (made, chose))
-    steps_leave answer (Some HoldKind.Read) made chose tied says = quiet (Some c) (step_at t (AtomicPlace.Leave answer) (Some HoldKind.Read) (word_in t past)) refl (λ none. tied) (λ x place ends stage. absurd cc) (says, (made, chose))
-    steps_leave answer (Some HoldKind.Write) made chose tied says = quiet (Some c) (step_at t (AtomicPlace.Leave answer) (Some HoldKind.Write) (word_in t past)) refl (λ none. tied) (λ x place ends stage. absurd cc) (says, (made, chose))
+    steps_leave answer hold h1 h2 h3 h4 = grind (arith, nat_tests, eqb-true, eqb-false, quiet)
 
     stepped : (place : AtomicPlace T) → stage_of t c ≡ Some place → AtAtomic z place c (hold_of t party past) → DataAt z d owed place c → go_fault (latest_outcome c.own) ≡ None → Step place
     stepped AtomicPlace.Look stage at here free = steps_look stage
@@ -381,33 +204,15 @@ module _ {T : Type 0} (z : Arithmetic T) (v : T) (past : List (Event T)) (party 
 
   -- The inputs that are no steps.
 
-  begun_same : (k : Option (PendingCall T)) (call : Call T) → data_after z d k (Act.Begun call) ≡ d
-  begun_same None call = refl
-  begun_same (Some c) call = refl
-
   begun : (k : Option (PendingCall T)) (call : Call T) → CallValues z call → Moved z v past party k (record { act = Act.Begun call; outcome = Then.GoesOn })
-  begun k call values = quiet k (record { act = Act.Begun call; outcome = Then.GoesOn }) (begun_same k call) before.tied
-      (λ x place goes stage.
-      let new : PendingCall T = record { call = call; own = [] } in
-      let same : new ≡ x = some_same new x goes in
-      let begins : t.begins call ≡ Some place = subst (λ (y : PendingCall T). stage_of t y ≡ Some place) (sym same) stage in
-      outside z d _ place x (subst (λ (y : PendingCall T). AtAtomic z place y None) same (begins_at z call place None begins values refl))) tt
+  begun k call h1 = grind (arith, nat_tests, eqb-true, eqb-false, begins_at, outside, quiet, some_same)
 
   answered_same : (k : Option (PendingCall T)) (action : WaitAction) → data_after z d k (Act.Answered action) ≡ d
-  answered_same None action = refl
-  answered_same (Some c) action = refl
+  answered_same k action = grind (arith, nat_tests, eqb-true, eqb-false)
 
   -- an answer leaves the call where it is
   stays : (place : AtomicPlace T) (c : PendingCall T) (action : WaitAction) → DataAt z d owed place c → DataAt z d owed place (record { call = c.call; own = event party (Act.Answered action) Then.GoesOn ∷ c.own })
-  stays AtomicPlace.Look c action here = here
-  stays (AtomicPlace.Enter seen to) c action here = here
-  stays (AtomicPlace.Take call) c action here = here
-  stays (AtomicPlace.Low call) c action here = here
-  stays (AtomicPlace.High call low) c action here = here
-  stays (AtomicPlace.Again old) c action here = here
-  stays (AtomicPlace.PutLow low high answer) c action here = record { new = here.new; is_value = here.is_value; low_is = here.low_is; high_is = here.high_is; act_is = here.act_is }
-  stays (AtomicPlace.PutHigh high answer) c action here = record { new = here.new; is_value = here.is_value; low_is = here.low_is; high_is = here.high_is; act_is = here.act_is }
-  stays (AtomicPlace.Leave answer) c action here = here
+  stays place c action h1 = grind (arith, nat_tests, eqb-true, eqb-false, here, high)
 
   answered : (k : Option (PendingCall T)) (action : WaitAction) → call_of party past ≡ k → Moved z v past party k (record { act = Act.Answered action; outcome = Then.GoesOn })
   answered None action called = quiet None (record { act = Act.Answered action; outcome = Then.GoesOn }) (answered_same None action) before.tied (λ x place goes stage. absurd cc) tt
@@ -419,29 +224,14 @@ module _ {T : Type 0} (z : Arithmetic T) (v : T) (past : List (Event T)) (party 
       subst (DataAt z d owed place) same (by_stage (stage_of t c) refl place now)) tt
     where
       by_stage : (s : Option (AtomicPlace T)) → stage_of t c ≡ s → (place : AtomicPlace T) → next_stage t (Act.Answered action) s ≡ Some place → DataAt z d owed place (record { call = c.call; own = event party (Act.Answered action) Then.GoesOn ∷ c.own })
-      by_stage None stage place now = absurd cc
-      by_stage (Some was) stage place now = at_next (λ p. DataAt z d owed p (record { call = c.call; own = event party (Act.Answered action) Then.GoesOn ∷ c.own })) was place now (stays was c action (before.each party c was called stage))
+      by_stage s h1 place h2 = grind (arith, nat_tests, eqb-true, eqb-false, at_next, stays)
 
   chosen_same : (k : Option (PendingCall T)) (choice : Option T) → data_after z d k (Act.Chosen choice) ≡ d
-  chosen_same None choice = refl
-  chosen_same (Some c) choice = refl
-
-  not_offered : (own : List (Event T)) → latest_outcome own ≡ Then.GoesOn → choose_fault (latest_outcome own) ≡ None → ⊥
-  not_offered own goes stands = let no : choose_fault {T = T} Then.GoesOn ≡ None = subst (λ (o : Then T). choose_fault o ≡ None) goes stands in absurd cc
+  chosen_same k choice = grind (arith, nat_tests, eqb-true, eqb-false)
 
   chooses : (place : AtomicPlace T) (c : PendingCall T) (hold : Option HoldKind) (choice : Option T) → AtAtomic z place c hold → DataAt z d owed place c → InputValues z (Input.Choose choice) → choose_fault (latest_outcome c.own) ≡ None →
       DataAt z d owed (t.chosen place choice) (record { call = c.call; own = event party (Act.Chosen choice) Then.GoesOn ∷ c.own })
-  chooses AtomicPlace.Look c hold choice at here value stands = absurd (not_offered c.own at.2.fresh.goes stands)
-  chooses (AtomicPlace.Enter seen to) c hold choice at here value stands = absurd (not_offered c.own at.3.fresh.goes stands)
-  chooses (AtomicPlace.Take call) c hold choice at here value stands = absurd (not_offered c.own at.4.fresh.goes stands)
-  chooses (AtomicPlace.Low call) c hold choice at here value stands = absurd (not_offered c.own at.3.fresh.goes stands)
-  chooses (AtomicPlace.High call low) c hold choice at here value stands = absurd (not_offered c.own at.3.goes stands)
-  chooses (AtomicPlace.Again old) c hold (Some new) at here value stands =
-      record { new = new; is_value = value; low_is = refl; high_is = refl; act_is = ap (λ (k : Call T). act_of z k (Some (Some new)) d.value) at.0 ∙ ap (λ (o : T). (Answer.OkOld o, new)) (sym here.1) }
-  chooses (AtomicPlace.Again old) c hold None at here value stands = here
-  chooses (AtomicPlace.PutLow low high answer) c hold choice at here value stands = absurd (not_offered c.own at.goes stands)
-  chooses (AtomicPlace.PutHigh high answer) c hold choice at here value stands = absurd (not_offered c.own at.goes stands)
-  chooses (AtomicPlace.Leave answer) c hold choice at here value stands = absurd (not_offered c.own at.goes stands)
+  chooses place c hold choice h1 h2 h3 h4 = grind (arith, nat_tests, eqb-true, eqb-false, here, high)
 
   chosen : (parties : ℕ) → IsPast z t parties past → (k : Option (PendingCall T)) (choice : Option T) → call_of party past ≡ k → InputValues z (Input.Choose choice) → fault_at t k (hold_of t party past) (Input.Choose choice) ≡ None →
       Moved z v past party k (record { act = Act.Chosen choice; outcome = Then.GoesOn })

@@ -3,9 +3,9 @@ use Rattle.model_atomic.specs.Names.{unwrap_or, MatchOption, Word, Call, Act, An
 use Rattle.model_atomic.proofs.Names.{eqb-false, eqb-true, nat_tests, ◌≡◌, ℕ, ◌+◌, ◌-◌, ◌^◌, ◌==◌, refl, sym, ◌∙◌, ap, subst, Bool, true, false, cond, is_some, List, [], ◌∷◌, Option, Some, None, arith, some_same, IsKeptFromRest, at_place_from_rest}
 use Rattle.model_events.proofs.NextStep.{steps_follow}
 use Rattle.model_atomic.specs.declared.AtomicPlace.{AtomicPlace}
-use Rattle.model_atomic.specs.Register.{act_of, compared, choice_of, low_told, acts_made}
-use Rattle.model_atomic.specs.Table.{atomic_begins, look_at, puts, inside, knows, compares, atomic_table}
-use Rattle.model_atomic.specs.Steps.{wants, Enters, has_entered, high_told, value_found, acts_so, reads_again, Accesses, StepUnder, AtomicStep}
+use Rattle.model_atomic.specs.Register.{act_of, choice_of, low_told, acts_made}
+use Rattle.model_atomic.specs.Table.{atomic_begins, look_at, inside, knows, atomic_table}
+use Rattle.model_atomic.specs.Steps.{wants, Enters, has_entered, high_told, value_found, acts_so, Accesses, StepUnder, AtomicStep}
 use Rattle.model_atomic.proofs.Places.{is_store, Asks, AtAtomic, HasNone, atomic_kept}
 
 -- What a call at each place has done and was told.
@@ -56,8 +56,7 @@ enter_done :
     {T : Type 0} (z : Arithmetic T) (call : Call T) (own : List (Event T)) (seen to w number : ℕ) (next : AtomicPlace T) (b : Bool) → IsOutside own →
     ◌≡◌ {A = Option (AtomicPlace T)} (Some (cond b (AtomicPlace.Low Call.Load) (look_at w))) (Some next) →
     HasDone z next (record { call = call; own = event number (Act.Exchange Word.State seen to w b) Then.GoesOn ∷ own })
-enter_done z call own seen to w number next true out is = leads z (AtomicPlace.Low Call.Load) next _ is ((refl, out.1), seen, to, w, refl)
-enter_done z call own seen to w number next false out is = look_done z w _ next (lets_readers_in w) refl out refl is
+enter_done z call own seen to w number next b h1 h2 = grind (arith, nat_tests, eqb-true, eqb-false, leads, look_done)
 
 inside_done :
     {T : Type 0} (z : Arithmetic T) (call : Call T) (own : List (Event T)) (from to found : ℕ) (next : AtomicPlace T) → IsInside own → last_of is_step own ≡ Some (Act.Exchange Word.State from to found true) →
@@ -83,38 +82,8 @@ module _ {T : Type 0} (z : Arithmetic T) (own : List (Event T)) (low w number : 
   so : (call : Call T) (outcome : Then T) → acts_so z call (event number (Act.Load Word.High w) outcome ∷ own) ≡ act_of z call (choice_of own) (z.of_words low w)
   so call outcome = ap (act_of z call (choice_of own)) (knew outcome)
 
-  will_put : (call : Call T) (new : T) (answer : Answer T) → act_of z call (choice_of own) (z.of_words low w) ≡ (answer, new) → reads_again call (choice_of own) ≡ false →
-      ◌≡◌ {A = Option (AtomicPlace T)} (Some (puts z new answer)) (Some next) → HasDone z next (after_look call Then.GoesOn)
-  will_put call new answer gives stores is =
-      let now : acts_so z call (event number (Act.Load Word.High w) Then.GoesOn ∷ own) ≡ (answer, new) = so call Then.GoesOn ∙ gives in
-      leads z (puts z new answer) next (after_look call Then.GoesOn) is (in_it.0, (new, now, refl), rw stores (refl, ap (λ o. z.low o.1) (sym now), refl))
-
-  has_acted : (call : Call T) (new : T) (answer : Answer T) → act_of z call (choice_of own) (z.of_words low w) ≡ (answer, new) →
-      ◌≡◌ {A = Option (AtomicPlace T)} (Some (AtomicPlace.Leave answer)) (Some next) → HasDone z next (after_look call Then.GoesOn)
-  has_acted call new answer gives is = leads z (AtomicPlace.Leave answer) next (after_look call Then.GoesOn) is (ap (λ o. o.0) (sym (so call Then.GoesOn ∙ gives)))
-
-  compares_done : (call : Call T) (new : T) (b : Bool) → act_of z call (choice_of own) (z.of_words low w) ≡ compared b (z.of_words low w) new → reads_again call (choice_of own) ≡ false →
-      ◌≡◌ {A = Option (AtomicPlace T)} (Some (compares z b (z.of_words low w) new)) (Some next) → HasDone z next (after_look call Then.GoesOn)
-  compares_done call new true gives stores is = will_put call new (Answer.OkOld (z.of_words low w)) gives stores is
-  compares_done call new false gives stores is = has_acted call (z.of_words low w) (Answer.ErrOld (z.of_words low w)) gives is
-
   high_done : (call : Call T) → is_some (wants call) ≡ true → is_store call ≡ false → place_after (knows z call (z.of_words low w)) ≡ Some next → HasDone z next (after_look call (outcome_of (knows z call (z.of_words low w))))
-  high_done Call.Load known looks is = has_acted Call.Load _ _ refl is
-  high_done (Call.Store x) known looks is = absurd cc
-  high_done (Call.Swap x) known looks is = will_put (Call.Swap x) _ _ refl refl is
-  high_done (Call.CompareExchange c x) known looks is = compares_done (Call.CompareExchange c x) x (z.same (z.of_words low w) c) refl refl is
-  high_done (Call.CompareExchangeWeak c x) known looks is = compares_done (Call.CompareExchangeWeak c x) x (z.same (z.of_words low w) c) refl refl is
-  high_done (Call.FetchAdd x) known looks is = will_put (Call.FetchAdd x) _ _ refl refl is
-  high_done (Call.FetchSub x) known looks is = will_put (Call.FetchSub x) _ _ refl refl is
-  high_done (Call.FetchAnd x) known looks is = will_put (Call.FetchAnd x) _ _ refl refl is
-  high_done (Call.FetchOr x) known looks is = will_put (Call.FetchOr x) _ _ refl refl is
-  high_done (Call.FetchXor x) known looks is = will_put (Call.FetchXor x) _ _ refl refl is
-  high_done (Call.FetchNand x) known looks is = will_put (Call.FetchNand x) _ _ refl refl is
-  high_done (Call.FetchMax x) known looks is = will_put (Call.FetchMax x) _ _ refl refl is
-  high_done (Call.FetchMin x) known looks is = will_put (Call.FetchMin x) _ _ refl refl is
-  high_done Call.FetchUpdate known looks is =
-      leads z (AtomicPlace.Again (z.of_words low w)) next (after_look Call.FetchUpdate (Then.Chooses (z.of_words low w))) is (in_it.0, w, refl, rw in_it.1 refl, ap (λ l. z.of_words l w) (sym told))
-  high_done other known looks is = absurd cc
+  high_done call h1 h2 h3 = grind (arith, nat_tests, eqb-true, eqb-false, leads, so)
 
 -- where its closure chose nothing a `FetchUpdate` reads once more, and so acts
 again_done :
@@ -170,8 +139,7 @@ kept z v =
 
 module _ {T : Type 0} (z : Arithmetic T) (call : Call T) (own : List (Event T)) (act : Act T) (outcome : Then T) where
   of_kind : (kind : Option HoldKind) → is_some kind ≡ true → ((k : HoldKind) → StepUnder z k call own act outcome) → MatchOption kind ⊥ (λ k. StepUnder z k call own act outcome)
-  of_kind None known step = absurd cc
-  of_kind (Some k) known step = step k
+  of_kind kind h1 h2 = grind (arith, nat_tests, eqb-true, eqb-false)
 
   enters : (kind : HoldKind) → wants call ≡ Some kind → acts_made z call own ≡ 0 → has_entered own ≡ false → Enters kind own act outcome → AtomicStep z call own act outcome
   enters kind is unmade out step = rw is (rw unmade (rw out step))

@@ -1,17 +1,7 @@
 -- What callers prove of a pass that only adds: by each addition, by a join, and of the value at the end. That a new pass has added nothing,
 -- and what the parts of a pass have added, is found by search.
-use Rattle.std.proofs.Common.{◌≡◌, ℕ, zero, suc, ◌+◌, ◌*◌, ◌%◌, ◌^◌, ◌<◌, List, [], ◌∷◌, ◌++◌, length, refl, sym, ap, subst, ◌∙◌, arith}
-use Rattle.running_passes.specs.Parts.{IsWhole}
-use Rattle.running_tallies.specs.Counts.{one_more, both_counts}
+use Rattle.running_atomic.proofs.Names.{◌≡◌, ℕ, zero, suc, ◌+◌, ◌*◌, ◌%◌, ◌^◌, ◌<◌, List, [], ◌∷◌, ◌++◌, length, refl, sym, ap, subst, ◌∙◌, arith, IsWhole, one_more, both_counts, Answer, Arithmetic, u128_arithmetic, RegisterAct, plain, value_after, after_acts, AtomicPass, each_once, part_of_atomic, HasActed, HasJoined, IsLastOf, acts_in_all, AreAdditions, HasAdded, after_adding, nat_tests, eqb-true, eqb-false}
 use Rattle.model_events.specs.declared.event.Call.TheVariants as calls
-use Rattle.model_events.specs.declared.event.Answer.{Answer}
-use Rattle.model_events.specs.Arithmetic.{Arithmetic}
-use Rattle.model_events.specs.Integers.{u128_arithmetic}
-use Rattle.model_atomic.specs.Register.{RegisterAct, plain, value_after, after_acts}
-use Rattle.running_atomic.specs.declared.pass.AtomicPass.{AtomicPass}
-use Rattle.running_atomic.specs.AtomicRule.{each_once}
-use Rattle.running_atomic.specs.AtomicShown.{part_of_atomic, own_of, history_of, HasActed, HasJoined, IsLastOf}
-use Rattle.running_atomic.specs.Additions.{acts_in_all, AreAdditions, HasAdded, after_adding}
 
 -- how many are counted
 
@@ -70,31 +60,15 @@ module _ {T : Type 0} (x : T) where
 
     -- by an addition
     pub adds : (n : ℕ) (opening : T) (answer : Answer T) (p q : AtomicPass T) → HasActed z opening (plain (calls.FetchAdd x)) answer p q → HasAdded z x n p → HasAdded z x (n + 1) q
-    adds n opening answer p q acted added =
-        let a = acted.1 in
-        let before : AreAdditions x (own_of p) a.before = subst (λ (h : List (RegisterAct T)). AreAdditions x (own_of p) h) (sym a.begins.1) (grows (own_of p) (history_of z p) a.begins.0 added.each) in
-        record {
-          often = ap acts_in_all a.own ∙ more_in_all (length a.before) (own_of p) ∙ ap (λ (m : ℕ). m + 1) added.often;
-          each = subst (λ (h : List (RegisterAct T)). AreAdditions x (own_of q) h) (sym a.seen)
-              (subst (λ (marks : List ℕ). AreAdditions x marks (a.before ++ plain (calls.FetchAdd x) ∷ [])) (sym a.own) (one_addition_more (own_of p) a.before before));
-        }
+    adds n opening answer p q h1 h2 = grind (arith, nat_tests, eqb-true, eqb-false, grows, more_in_all, one_addition_more)
 
     -- of two passes that are joined
     pub joins_added : (n m : ℕ) (p q w : AtomicPass T) → HasJoined z p q w → HasAdded z x n p → HasAdded z x m q → HasAdded z x (n + m) w
-    joins_added n m p q w j one other =
-        let first = subst (λ (h : List (RegisterAct T)). AreAdditions x (own_of p) h) (sym j.begins.1) (grows (own_of p) (history_of z p) j.begins.0 one.each) in
-        let second = subst (λ (h : List (RegisterAct T)). AreAdditions x (own_of q) h) (sym j.begins_also.1) (grows (own_of q) (history_of z q) j.begins_also.0 other.each) in
-        record {
-          often = ap acts_in_all j.own ∙ both_in_all (own_of p) (own_of q) ∙ (λ i. one.often i + other.often i);
-          each = subst (λ (marks : List ℕ). AreAdditions x marks (history_of z w)) (sym j.own) (both (own_of p) (own_of q) (history_of z w) first second);
-        }
+    joins_added n m p q w h1 h2 h3 = grind (arith, nat_tests, eqb-true, eqb-false, both, both_in_all, grows)
 
     -- with the whole pass the value is the opening one and what was added
     pub sum_of_additions : (n : ℕ) (opening value : T) (p : AtomicPass T) → IsWhole (part_of_atomic p) → IsLastOf z opening p value → HasAdded z x n p → value ≡ after_adding z x n opening
-    sum_of_additions n opening value p whole is_last added =
-        let last = is_last whole in
-        last.value_is ∙ after_additions opening (history_of z p) (subst (λ (marks : List ℕ). AreAdditions x marks (history_of z p)) last.own added.each)
-        ∙ ap (λ (m : ℕ). after_adding z x m opening) (sym (all_once (history_of z p)) ∙ sym (ap acts_in_all last.own) ∙ added.often)
+    sum_of_additions n opening value p h1 h2 h3 = grind (arith, nat_tests, eqb-true, eqb-false, after_additions, all_once)
 
 -- of a type without a sign
 

@@ -1,10 +1,6 @@
 pub mod Names
 pub mod AtomicKeeps
 pub mod Runs
-pub mod AtEnd
-pub mod OneHistory
-pub mod Joins
 pub mod AtomicPlays
-pub mod Compares
 pub mod OverCalls
 pub mod Additions

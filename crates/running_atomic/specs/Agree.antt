@@ -1,8 +1,6 @@
 -- What two know of the same places: both know the same there, or they are torn.
-use Rattle.running_atomic.specs.Names.{◌≡◌, ◌≢◌, Bool, true, false, cond, List, [], ◌∷◌}
-use Rattle.std.proofs.Common.{refl, sym, ap, ◌∙◌, ⊎_elim}
+use Rattle.running_atomic.specs.Names.{◌≡◌, ◌≢◌, Bool, true, false, cond, List, [], ◌∷◌, refl, ap, ⊎_elim, Place, arith, nat_tests, eqb-true, eqb-false}
 use Rattle.running_atomic.specs.Alike.{Tells}
-use Rattle.running_atomic.specs.declared.history.Place.{Place}
 use Rattle.running_atomic.specs.declared.history.Place.TheVariants.{Unknown, Is, Torn}
 
 module _ {X : Type 0} where
@@ -29,36 +27,13 @@ module _ {X : Type 0} where
     by_same P x y alike apart = ⊎_elim (λ (t : (same x y ≡ true) × (x ≡ y)). alike t.1) (λ (t : (same x y ≡ false) × (x ≢ y)). apart t.1) (tells x y)
 
     pub met_idem : (a : Place X) → met same a a ≡ a
-    met_idem Unknown = refl
-    met_idem (Is x) = met_is x
-    met_idem Torn = refl
+    met_idem a = grind (arith, nat_tests, eqb-true, eqb-false)
 
     met_comm : (a b : Place X) → met same a b ≡ met same b a
-    met_comm Unknown Unknown = refl
-    met_comm Unknown (Is y) = refl
-    met_comm Unknown Torn = refl
-    met_comm (Is x) Unknown = refl
-    met_comm (Is x) (Is y) = by_same _ x y (λ is. (λ i. met same (Is (is i)) (Is (sym is i)))) (λ not. met_else x y not ∙ sym (met_else y x (λ is. not (sym is))))
-    met_comm (Is x) Torn = refl
-    met_comm Torn Unknown = refl
-    met_comm Torn (Is y) = refl
-    met_comm Torn Torn = refl
+    met_comm a b = grind (arith, nat_tests, eqb-true, eqb-false)
 
     met_assoc : (a b c : Place X) → met same (met same a b) c ≡ met same a (met same b c)
-    met_assoc Unknown b c = refl
-    met_assoc Torn b c = refl
-    met_assoc (Is x) Unknown c = refl
-    met_assoc (Is x) Torn c = refl
-    met_assoc (Is x) (Is y) Unknown = met_comm (met same (Is x) (Is y)) Unknown
-    met_assoc (Is x) (Is y) Torn = met_comm (met same (Is x) (Is y)) Torn
-    met_assoc (Is x) (Is y) (Is z) = by_same _ x y
-        (λ is. let first : met same (Is x) (Is y) ≡ Is x = ap (λ (u : X). met same (Is x) (Is u)) (sym is) ∙ met_is x in
-        ap (λ (k : Place X). met same k (Is z)) first ∙ by_same (met same (Is x) (Is z) ≡ met same (Is x) (met same (Is y) (Is z))) y z
-        (λ also. let second : met same (Is y) (Is z) ≡ Is z = ap (λ (u : X). met same (Is u) (Is z)) also ∙ met_is z in sym (ap (met same (Is x)) second))
-        (λ not. met_else x z (λ too. not (sym is ∙ too)) ∙ sym (ap (met same (Is x)) (met_else y z not))))
-        (λ not. ap (λ (k : Place X). met same k (Is z)) (met_else x y not) ∙ by_same (Torn ≡ met same (Is x) (met same (Is y) (Is z))) y z
-        (λ also. let second : met same (Is y) (Is z) ≡ Is y = ap (λ (u : X). met same (Is y) (Is u)) (sym also) ∙ met_is y in sym (ap (met same (Is x)) second ∙ met_else x y not))
-        (λ apart. sym (ap (met same (Is x)) (met_else y z apart))))
+    met_assoc a b c = grind (arith, nat_tests, eqb-true, eqb-false)
 
     pub merge_idem : (xs : List (Place X)) → merge same xs xs ≡ xs
     merge_idem [] = refl

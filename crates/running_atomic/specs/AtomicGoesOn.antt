@@ -1,21 +1,8 @@
 -- What the passes of an atomic count and know follows the run.
-use Rattle.running_atomic.specs.Names.{not, is_some, HoldKind, Word, Call, Answer, Act, Event, Arithmetic, IsValue, IsClosed, PendingCall, call_of, hold_of, word_in, word_after, stage_of, CallValues, IsPast, carried_out, AtomicPlace, atomic_table, atomic_begins, atomic_intent, atomic_grant, release, RegisterAct, Outcome, plain, update, compared, act_of, acted, value_after, after_acts, choice_of, choice_for, act_by, acts_at, acts_of_run, answer_of, is_last, ends_at_look, register_after, Held, Free, Reading, Writing, Torn, both_held, Locks, IsOnNoWord, on_no_word, StaysOnNoWord, SameOnNoWord, GoesOnByActs}
-use Rattle.std.proofs.Common.{◌≡◌, ℕ, ◌+◌, ◌-◌, ◌%◌, ◌^◌, ◌<◌, ◌==◌, Bool, true, false, cond, List, [], ◌∷◌, ◌++◌, Option, Some, None, refl, sym, ap, subst, ◌∙◌, arith}
-use Rattle.std.proofs.lemmas.Bool.{eqb-true, eqb-false, ne_eqb}
-use Rattle.std.proofs.lemmas.Bool.Decides.{nat_tests}
-use Rattle.std.proofs.lemmas.List.{append-nil}
-use Rattle.model_events.proofs.Parties.{IsKeptFromRest, Whatever, at_place_from_rest}
-use Rattle.model_atomic.proofs.Acts.{puts_at, looks_at, again_at, put_is_chosen, register_by_acts}
-use Rattle.model_atomic.proofs.Data.{Will, DataAt, data_at, keeps}
-use Rattle.model_atomic.proofs.Places.{AtAtomic, here}
-use Rattle.running_atomic.specs.declared.history.AtomicTally.{AtomicTally}
-use Rattle.running_atomic.specs.declared.history.Content.{Content}
-use Rattle.running_atomic.specs.declared.history.AtomicAct.{AtomicAct}
-use Rattle.running_atomic.specs.declared.history.Heard.{Heard}
-use Rattle.running_atomic.specs.History.{content, both_heard, both_tallies, atomic_tally, no_acts, same_content, tells_same_content}
+use Rattle.running_atomic.specs.Names.{is_some, HoldKind, Word, Call, Answer, Act, Event, Arithmetic, IsValue, IsClosed, PendingCall, call_of, hold_of, word_in, word_after, stage_of, CallValues, IsPast, carried_out, AtomicPlace, atomic_table, atomic_intent, atomic_grant, release, RegisterAct, Outcome, plain, update, act_of, acted, value_after, after_acts, choice_of, choice_for, act_by, acts_at, acts_of_run, answer_of, is_last, ends_at_look, register_after, Held, Free, both_held, Locks, IsOnNoWord, on_no_word, StaysOnNoWord, SameOnNoWord, GoesOnByActs, ◌≡◌, ℕ, ◌+◌, ◌-◌, ◌%◌, ◌^◌, ◌<◌, ◌==◌, Bool, true, false, cond, List, [], ◌∷◌, ◌++◌, Option, Some, None, refl, sym, ap, subst, ◌∙◌, arith, eqb-true, eqb-false, ne_eqb, nat_tests, append-nil, IsKeptFromRest, Whatever, at_place_from_rest, puts_at, looks_at, again_at, put_is_chosen, register_by_acts, Will, DataAt, data_at, keeps, AtAtomic, here, AtomicTally, Content, AtomicAct, Heard}
+use Rattle.running_atomic.specs.History.{both_heard, both_tallies, no_acts, same_content}
 use Rattle.running_atomic.specs.AtomicModel.{atomic_model}
 use Rattle.running_atomic.specs.AtomicRule.{value_of, act_in, acts_in, written, all_written, history_of_run, known, each_once, register_of, IsReading, IsWriting, IsSettled, data_in, put_low, put_high, held_after, looked_at, stored, acted_by, heard_after, tally_after, tally_needs, IsRegister}
-use Rattle.running_atomic.specs.LockKeeps.{enters_read, enters_write, leaves_read, writes}
 use Rattle.running_atomic.specs.HistoryKeeps.{grows, grows_own, acts_append}
 
 -- The hold.
@@ -39,69 +26,25 @@ module _ {T : Type 0} (z : Arithmetic T) where
     abbrev n : ℕ
     n = memory Word.State
 
-    -- where there is no hold, the others have all
-    theirs : (h : Held Content) → h ≡ Free → IsLocked memory value (with h rest) → IsLocked memory value rest
-    theirs h free is = subst (λ (g : Held Content). IsLocked memory value (with g rest)) free is
-
     takes : (from to : ℕ) (h : Held Content) → n ≡ from → h ≡ Free → (to == 2 ^ 64 - 1) ≡ false → to ≡ from + 1 → from < 2 ^ 64 - 2 → IsLocked memory value (with h rest) →
         IsLocked (after (Act.Exchange Word.State from to n true) memory) value (with (held_after {T = T} d (Act.Exchange Word.State from to n true) h) rest)
-    takes from to h hit free small next room is =
-        let own = theirs h free is in
-        let t = enters_read same_content tells_same_content from d rest (subst (λ (m : ℕ). Locks m d rest) hit own.0) room in
-        subst (λ (b : Bool). IsLocked (after (Act.Exchange Word.State from to n true) memory) value (with (cond b (Writing d d) (Reading 0 d)) rest)) (sym small)
-        (subst (λ (m : ℕ). Locks m d (with (Reading 0 d) rest)) (sym next) t.0, ap (value_of z) t.1 ∙ own.1)
+    takes from to h h1 h2 h3 h4 h5 h6 = grind (arith, nat_tests, eqb-true, eqb-false)
 
     takes_all : (h : Held Content) → n ≡ 0 → h ≡ Free → IsLocked memory value (with h rest) →
         IsLocked (after (Act.Exchange Word.State 0 (2 ^ 64 - 1) n true) memory) value (with (held_after {T = T} d (Act.Exchange Word.State 0 (2 ^ 64 - 1) n true) h) rest)
-    takes_all h hit free is =
-        let own = theirs h free is in
-        let t = enters_write same_content tells_same_content d rest (subst (λ (m : ℕ). Locks m d rest) hit own.0) in
-        (t.0, ap (value_of z) t.1 ∙ own.1)
+    takes_all h h1 h2 h3 = grind (arith, nat_tests, eqb-true, eqb-false)
 
     lets_read : (h : Held Content) → IsReading h → IsLocked memory value (with h rest) → IsLocked (after (Act.Add Word.State n ((n + (2 ^ 64 - 1)) % 2 ^ 64)) memory) value rest
-    lets_read Free on is = absurd on
-    lets_read (Reading m x) on is =
-        let own : IsLocked memory value (with (Reading 0 x) rest) = subst (λ (i : ℕ). IsLocked memory value (with (Reading i x) rest)) on is in
-        let t = leaves_read same_content tells_same_content n d x rest own.0 in
-        (t.0, ap (value_of z) t.1 ∙ own.1)
-    lets_read (Writing x u) on is = absurd on
-    lets_read Torn on is = absurd on
+    lets_read h h1 h2 = grind (arith, nat_tests, eqb-true, eqb-false)
 
     lets_write : (h : Held Content) → IsSettled h → IsLocked memory value (with h rest) → IsLocked (after (Act.Store Word.State 0) memory) value rest
-    lets_write Free on is = absurd on
-    lets_write (Reading m x) on is = absurd on
-    lets_write (Writing x u) on is =
-        let t = writes same_content tells_same_content n d x u rest is.0 in (
-          subst (Locks 0 d) (sym t.0) (record { word_is = omega arith; room = omega arith; knows = tt }),
-          ap (λ (g : Held Content). value_of z (register_of g d)) t.0 ∙ ap (value_of z) (sym t.2 ∙ on) ∙ sym (ap (λ (g : Held Content). value_of z (register_of (with (Writing x u) g) d)) t.0) ∙ is.1,
-        )
-    lets_write Torn on is = absurd on
+    lets_write h h1 h2 = grind (arith, nat_tests, eqb-true, eqb-false)
 
     stores_low : (low : ℕ) (h : Held Content) → IsWriting h → IsLocked memory value (with h rest) → IsLocked (after (Act.Store Word.Low low) memory) value (with (put_low low h) rest)
-    stores_low low Free on is = absurd on
-    stores_low low (Reading m x) on is = absurd on
-    stores_low low (Writing x u) on is =
-        let t = writes same_content tells_same_content n d x u rest is.0 in
-        let new : Content = content low (memory Word.High) in
-        let h : Held Content = Writing (content low x.high) u in
-        let lone : with h rest ≡ h = ap (with h) t.0 in (
-          subst (Locks n new) (sym lone) (record { word_is = t.1; room = omega arith; knows = ap (λ (c : Content). content low c.high) t.2 }),
-          ap (λ (g : Held Content). value_of z (register_of g new)) lone ∙ sym (ap (λ (g : Held Content). value_of z (register_of (with (Writing x u) g) d)) t.0) ∙ is.1,
-        )
-    stores_low low Torn on is = absurd on
+    stores_low low h h1 h2 = grind (arith, nat_tests, eqb-true, eqb-false)
 
     stores_high : (high : ℕ) (h : Held Content) → IsWriting h → IsLocked memory value (with h rest) → IsLocked (after (Act.Store Word.High high) memory) (z.of_words (memory Word.Low) high) (with (put_high high h) rest)
-    stores_high high Free on is = absurd on
-    stores_high high (Reading m x) on is = absurd on
-    stores_high high (Writing x u) on is =
-        let t = writes same_content tells_same_content n d x u rest is.0 in
-        let new : Content = content (memory Word.Low) high in
-        let h : Held Content = Writing (content x.low high) (content x.low high) in
-        let lone : with h rest ≡ h = ap (with h) t.0 in (
-          subst (Locks n new) (sym lone) (record { word_is = t.1; room = omega arith; knows = ap (λ (c : Content). content c.low high) t.2 }),
-          ap (λ (g : Held Content). value_of z (register_of g new)) lone ∙ ap (λ (c : Content). z.of_words c.low high) t.2,
-        )
-    stores_high high Torn on is = absurd on
+    stores_high high h h1 h2 = grind (arith, nat_tests, eqb-true, eqb-false)
 
   another_value : (memory : Word → ℕ) (v w : T) (h : Held Content) → w ≡ v → IsLocked memory v h → IsLocked memory w h
   another_value memory v w h same is = (is.0, is.1 ∙ sym same)
@@ -125,79 +68,32 @@ module _ {T : Type 0} (z : Arithmetic T) where
     MadeIsWritten (Some a) = act_in z (written z a) ≡ a
 
     hears : (made : Option (RegisterAct T)) (t rest : Heard) → MadeIsWritten made → IsHeard (acts_of_run z past) (both_heard t rest) → IsHeard (acts_of_run z past ++ listed made) (both_heard (heard_after z (history_of_run z past) made t) rest)
-    hears None t rest valid is = subst (λ (acts : List (RegisterAct T)). IsHeard acts (both_heard t rest)) (sym (append-nil (acts_of_run z past))) is
-    hears (Some a) t rest valid is =
-        let h : List AtomicAct = history_of_run z past in
-        let longer : all_written z (acts_of_run z past ++ a ∷ []) ≡ h ++ written z a ∷ [] = written_more (acts_of_run z past) (a ∷ []) in (
-          grows h (written z a ∷ []) t.seen rest.seen is.0 ∙ ap known (sym longer),
-          grows_own h (written z a) t.own rest.own is.1 ∙ ap each_once (sym longer),
-          ap (acts_in z) longer ∙ acts_append z h (written z a ∷ []) ∙ (λ i. is.2 i ++ valid i ∷ []),
-        )
+    hears made t rest h1 h2 = grind (arith, nat_tests, eqb-true, eqb-false, acts_append, append-nil, grows, grows_own, written_more)
 
 -- The values of a call under way are values of its type, and it takes the lock.
 
 abbrev HasValues : {T : Type 0} → Arithmetic T → AtomicPlace T → PendingCall T → Option HoldKind → Type 0
 HasValues z place c hold = CallValues z c.call × (is_some (atomic_grant c.call) ≡ true)
 
-begins_so : {T : Type 0} (call : Call T) (place : AtomicPlace T) → atomic_begins call ≡ Some place → is_some (atomic_grant call) ≡ true
-begins_so call place h1 = grind (arith, nat_tests, eqb-true, eqb-false)
-
 values_kept : {T : Type 0} (z : Arithmetic T) (v : T) → IsKeptFromRest z (atomic_table z v) Whatever (HasValues z)
-values_kept z v =
-    record {
-      begins = λ call place hold is allowed values rest. (values, begins_so call place is);
-      steps = λ place c hold memory number next at goes is. at;
-      answers = λ place c hold action number at stands. at;
-      chooses = λ place c hold choice number at stands values. at;
-      ends = λ place c hold memory answer at is. tt;
-    }
+values_kept z v = grind (arith, nat_tests, eqb-true, eqb-false)
 
 module _ {T : Type 0} (z : Arithmetic T) where
   -- so an act in words is that act
 
-  pub plain_is_written : (call : Call T) → CallValues z call → is_some (atomic_grant call) ≡ true → choice_for call (Some None) ≡ None → act_in z (written z (plain call)) ≡ plain call
-  plain_is_written Call.Load values takes asks = refl
-  plain_is_written (Call.Store x) values takes asks = λ i. plain (Call.Store (values i))
-  plain_is_written (Call.Swap x) values takes asks = λ i. plain (Call.Swap (values i))
-  plain_is_written (Call.CompareExchange x y) values takes asks = λ i. plain (Call.CompareExchange (values.0 i) (values.1 i))
-  plain_is_written (Call.CompareExchangeWeak x y) values takes asks = λ i. plain (Call.CompareExchangeWeak (values.0 i) (values.1 i))
-  plain_is_written (Call.FetchAdd x) values takes asks = λ i. plain (Call.FetchAdd (values i))
-  plain_is_written (Call.FetchSub x) values takes asks = λ i. plain (Call.FetchSub (values i))
-  plain_is_written (Call.FetchAnd x) values takes asks = λ i. plain (Call.FetchAnd (values i))
-  plain_is_written (Call.FetchOr x) values takes asks = λ i. plain (Call.FetchOr (values i))
-  plain_is_written (Call.FetchXor x) values takes asks = λ i. plain (Call.FetchXor (values i))
-  plain_is_written (Call.FetchNand x) values takes asks = λ i. plain (Call.FetchNand (values i))
-  plain_is_written (Call.FetchMax x) values takes asks = λ i. plain (Call.FetchMax (values i))
-  plain_is_written (Call.FetchMin x) values takes asks = λ i. plain (Call.FetchMin (values i))
-  plain_is_written other values takes asks = absurd cc
-
   looked_is_written : (call : Call T) (old : T) → CallValues z call → is_some (atomic_grant call) ≡ true → ends_at_look z call None old ≡ true → act_in z (written z (plain call)) ≡ plain call
-  looked_is_written Call.FetchUpdate old values takes ends = absurd cc
-  looked_is_written other old values takes ends = plain_is_written other values takes refl
+  looked_is_written call old h1 h2 h3 = grind (arith, nat_tests, eqb-true, eqb-false)
 
   stored_is_written : (call : Call T) (new : T) → CallValues z call → is_some (atomic_grant call) ≡ true → IsValue z new → act_in z (written z (stored z call new)) ≡ stored z call new
-  stored_is_written Call.FetchUpdate new values takes is = λ i. update (Some (is i))
-  stored_is_written other new values takes is = plain_is_written other values takes refl
+  stored_is_written call new h1 h2 h3 = grind (arith, nat_tests, eqb-true, eqb-false)
 
   -- and the act of a call that stores is this
   stored_so : (call : Call T) (choice : Option (Option T)) (new : T) → (call ≡ Call.FetchUpdate → choice ≡ Some (Some new)) → record { call = call; choice = choice_for call choice } ≡ stored z call new
-  stored_so Call.FetchUpdate choice new chose = λ i. record { call = Call.FetchUpdate; choice = chose refl i }
-  stored_so other choice new chose = refl
+  stored_so call choice new h1 = grind (arith, nat_tests, eqb-true, eqb-false)
 
   -- a load leaves the register as it is, also where it is an act
   look_same : (call : Call T) (old : T) → cond (ends_at_look z call None old) (act_of z call None old).1 old ≡ old
-  look_same Call.Load old = refl
-  look_same (Call.CompareExchange x y) old = by_same (z.same old x)
-    where
-      by_same : (b : Bool) → cond (not b) (compared b old y).1 old ≡ old
-      by_same true = refl
-      by_same false = refl
-  look_same (Call.CompareExchangeWeak x y) old = by_same (z.same old x)
-    where
-      by_same : (b : Bool) → cond (not b) (compared b old y).1 old ≡ old
-      by_same true = refl
-      by_same false = refl
-  look_same other old = refl
+  look_same call old = grind (arith, nat_tests, eqb-true, eqb-false)
 
 after_more : {T : Type 0} (z : Arithmetic T) (v : T) (l m : List (RegisterAct T)) → after_acts z v (l ++ m) ≡ after_acts z (after_acts z v l) m
 after_more z v [] m = refl
@@ -326,8 +222,7 @@ module _ {T : Type 0} (z : Arithmetic T) (k : T) where
   quiet = on_no_word IsQuiet (λ call. (λ w n. refl, λ c. refl)) (λ action. (λ w n. refl, λ c. refl)) (λ choice. (λ w n. refl, λ c. refl)) (λ wake. (λ w n. refl, λ c. refl)) (λ w n. refl, λ c. refl) (λ value. (λ w n. refl, λ c. refl))
 
   not_last : (j : Option (PendingCall T)) (act : Act T) (v : T) → IsQuiet act → (acted z j act v ≡ v) × (acts_at z j act ≡ [])
-  not_last None act v none = (refl, refl)
-  not_last (Some c) act v none = (ap (λ (b : Bool). cond b (act_of z c.call (choice_of c.own) v).1 v) (none.1 c), ap (λ (b : Bool). cond b (act_by c ∷ []) []) (none.1 c))
+  not_last j act v h1 = grind (arith, nat_tests, eqb-true, eqb-false)
 
   module _ (past : List (Event T)) (e : Event T) (silent : IsOnNoWord e.act) where
     none : IsQuiet e.act
@@ -340,12 +235,7 @@ module _ {T : Type 0} (z : Arithmetic T) (k : T) where
     same_acts = ap (λ (l : List (RegisterAct T)). acts_of_run z past ++ l) (not_last (call_of e.party past) e.act k none).1 ∙ append-nil (acts_of_run z past)
 
   pub register_stays : StaysOnNoWord (IsRegister z k)
-  register_stays past e t silent is =
-      let locked = another_value z (word_in (atomic_table z k) (e ∷ past)) (register_after z k past) (register_after z k (e ∷ past)) t.hold (not_last (call_of e.party past) e.act (register_after z k past) (none past e silent)).0 (subst (λ (m : Word → ℕ). IsLocked z m (register_after z k past) t.hold) (sym (same_memory past e silent)) (is.locks, is.value_is)) in
-      let heard = subst (λ (acts : List (RegisterAct T)). IsHeard z past acts t.heard) (sym (same_acts past e silent)) (is.seen, is.own, is.acts_are) in
-      record { closed = is.closed; opening_is = is.opening_is; locks = locked.0; value_is = locked.1; seen = heard.0; own = heard.1; acts_are = heard.2 }
+  register_stays = grind (arith, nat_tests, eqb-true, eqb-false, another_value, locked, none, not_last, same_acts, same_memory)
 
   pub register_same : SameOnNoWord (tally_after z k)
-  register_same past e place act call t silent =
-      let memory = same_memory past e silent in let acts = same_acts past e silent in
-      λ i. atomic_tally (held_after (data_in (memory i)) act t.hold) (heard_after z (all_written z (acts i)) (acted_by z (memory i Word.Low) act place call) t.heard)
+  register_same = grind (arith, nat_tests, eqb-true, eqb-false, same_acts, same_memory)

@@ -1,8 +1,5 @@
 -- The model that an atomic plays.
-use Rattle.running_atomic.specs.Names.{ℕ, List, [], ◌∷◌, Word, Event, Arithmetic, IsValue, IsClosed, IsPast, AtomicPlace, atomic_table}
-use Rattle.model_atomic.specs.Law.{KeepsAtomic}
-use Rattle.model_atomic.proofs.Data.{keeps_atomic}
-use Rattle.running_model.specs.Models.{Model}
+use Rattle.running_atomic.specs.Names.{ℕ, List, [], ◌∷◌, Word, Event, Arithmetic, IsValue, IsClosed, IsPast, AtomicPlace, atomic_table, KeepsAtomic, keeps_atomic, Model}
 
 -- What every run keeps, where the operators lead from values to values, and the opening value is one: so it is of every type that an
 -- atomic may hold.

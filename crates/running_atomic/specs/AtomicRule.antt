@@ -1,14 +1,6 @@
 -- An atomic as one register, by the model's acts; what a pass counts of its steps; and what the run says of all passes.
-use Rattle.running_atomic.specs.Names.{◌≡◌, ℕ, ◌-◌, ◌^◌, ◌==◌, true, if◌then◌else◌, List, [], ◌∷◌, ◌++◌, length, slice_index, Option, Some, None, Word, Call, Act, Event, Arithmetic, IsValue, IsClosed, word_in, AtomicPlace, atomic_table, RegisterAct, plain, update, ends_at_look, acts_of_run, register_after, one_more, Held, Free, Reading, Writing, Torn, Locks}
-use Rattle.running_passes.specs.Sights.{seen}
-use Rattle.running_passes.specs.declared.part.Sights.{Sights}
-use Rattle.running_model.specs.Sees.{sights_after}
-use Rattle.running_atomic.specs.declared.history.AtomicTally.{AtomicTally}
-use Rattle.running_atomic.specs.declared.history.Content.{Content}
-use Rattle.running_atomic.specs.declared.history.AtomicAct.{AtomicAct}
-use Rattle.running_atomic.specs.declared.history.Place.{Place}
-use Rattle.running_atomic.specs.declared.history.Place.TheVariants.{Unknown, Is, Torn}
-use Rattle.running_atomic.specs.declared.history.Heard.{Heard}
+use Rattle.running_atomic.specs.Names.{◌≡◌, ℕ, ◌-◌, ◌^◌, ◌==◌, true, if◌then◌else◌, List, [], ◌∷◌, ◌++◌, length, slice_index, Option, Some, None, Word, Call, Act, Event, Arithmetic, IsValue, IsClosed, word_in, AtomicPlace, atomic_table, RegisterAct, plain, update, ends_at_look, acts_of_run, register_after, one_more, Held, Free, Reading, Writing, Locks, seen, Sights, sights_after, AtomicTally, Content, AtomicAct, Place, Heard}
+use Rattle.running_atomic.specs.declared.history.Place.TheVariants.{Is}
 use Rattle.running_atomic.specs.History.{content, heard, atomic_tally}
 
 module _ {T : Type 0} (z : Arithmetic T) where
@@ -76,10 +68,8 @@ module _ {T : Type 0} (z : Arithmetic T) where
 
 -- the acts that are known from the first on
 abbrev pub prefix : List (Place AtomicAct) → List AtomicAct
-prefix [] = []
-prefix (Unknown ∷ places) = []
 prefix (Is a ∷ places) = a ∷ prefix places
-prefix (Torn ∷ places) = []
+prefix other = []
 
 -- the history as far as it was seen
 abbrev pub history_in : {T : Type 0} → Arithmetic T → Heard → List (RegisterAct T)
@@ -100,31 +90,23 @@ data_of words = content (slice_index words 1) (slice_index words 2)
 
 -- the words of the register: the data words, but under a write hold those that it found
 abbrev pub register_of : {X : Type 0} → Held X → X → X
-register_of Free d = d
-register_of (Reading n x) d = d
 register_of (Writing x found) d = found
-register_of Torn d = d
+register_of other d = d
 
 -- one read hold stands
 abbrev pub IsReading : {X : Type 0} → Held X → Type 0
-IsReading Free = ⊥
 IsReading (Reading n x) = n ≡ 0
-IsReading (Writing x found) = ⊥
-IsReading Torn = ⊥
+IsReading other = ⊥
 
 -- a write hold stands
 abbrev pub IsWriting : {X : Type 0} → Held X → Type 0
-IsWriting Free = ⊥
-IsWriting (Reading n x) = ⊥
 IsWriting (Writing x found) = Unit {0}
-IsWriting Torn = ⊥
+IsWriting other = ⊥
 
 -- and the data words are the register's
 abbrev pub IsSettled : {X : Type 0} → Held X → Type 0
-IsSettled Free = ⊥
-IsSettled (Reading n x) = ⊥
 IsSettled (Writing x found) = x ≡ found
-IsSettled Torn = ⊥
+IsSettled other = ⊥
 
 -- What an act makes of a tally.
 

@@ -1,8 +1,5 @@
 -- What contracts see of an atomic and its pass, and what a call changes in a pass.
-use Rattle.running_atomic.specs.Names.{◌≡◌, ℕ, List, ◌++◌, codes, Option, Some, None, Call, Answer, Arithmetic, Pass, IsWhole, IsSamePass, view, part_of, Parties, HasCalled, parties_of, counts_of, counted, IsPassOf, key_of, Held, Writing, RegisterAct, answer_to}
-use Rattle.running_passes.specs.declared.part.Part.{Part}
-use Rattle.running_atomic.specs.declared.history.Content.{Content}
-use Rattle.running_atomic.specs.declared.history.AtomicAct.{AtomicAct}
+use Rattle.running_atomic.specs.Names.{◌≡◌, ℕ, List, ◌++◌, codes, Option, Some, None, Call, Answer, Arithmetic, Pass, IsWhole, IsSamePass, view, part_of, Parties, HasCalled, parties_of, counts_of, counted, IsPassOf, key_of, Held, Writing, RegisterAct, answer_to, Part, Content, AtomicAct}
 use Rattle.running_atomic.specs.declared.calls.Atomic.{Atomic}
 use Rattle.running_atomic.specs.declared.pass.AtomicPass.{AtomicPass}
 use Rattle.running_atomic.specs.declared.shown.AtomicShown.{AtomicShown}

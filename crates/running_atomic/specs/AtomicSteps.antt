@@ -1,15 +1,7 @@
 -- What the steps of an atomic tell, and what holds whenever its rule does.
-use Rattle.running_atomic.specs.Names.{◌≡◌, ◌≢◌, ℕ, false, MatchBool, List, [], ◌∷◌, ◌++◌, length, None, Call, Answer, Arithmetic, IsValue, IsClosed, View, IsWhole, together, missed, wrote, sum_of, IsCounted, one_more, both_counts, Held, Free, Reading, Writing, Torn, write_holds, AtomicPlace, RegisterAct, plain, answer_to, value_after, after_acts, Parties, none_played, both_played, PlaysAndCounts}
+use Rattle.running_atomic.specs.Names.{◌≡◌, ◌≢◌, ℕ, false, MatchBool, List, [], ◌∷◌, ◌++◌, length, None, Call, Answer, Arithmetic, IsValue, IsClosed, View, IsWhole, together, missed, wrote, sum_of, IsCounted, one_more, both_counts, Held, Free, Reading, Writing, write_holds, AtomicPlace, RegisterAct, plain, answer_to, value_after, after_acts, Parties, none_played, both_played, PlaysAndCounts, some, get_elem?, State, Played, AtomicTally, Content, AtomicAct, Heard}
 use mathlib.Core.Option as maybe
-use mathlib.Core.Option.{some}
-use lib.ListN.{get_elem?}
-use Rattle.atomic_table.specs.Table.{State}
-use Rattle.running_model.specs.declared.played.Played.{Played}
 use Rattle.running_atomic.specs.declared.script.AtomicScript.{AtomicScript}
-use Rattle.running_atomic.specs.declared.history.AtomicTally.{AtomicTally}
-use Rattle.running_atomic.specs.declared.history.Content.{Content}
-use Rattle.running_atomic.specs.declared.history.AtomicAct.{AtomicAct}
-use Rattle.running_atomic.specs.declared.history.Heard.{Heard}
 use Rattle.running_atomic.specs.History.{content, both_heard, atomic_tally, both_tallies, no_acts}
 use Rattle.running_atomic.specs.AtomicModel.{atomic_model, atomic_names}
 use Rattle.running_atomic.specs.AtomicParties.{ActsAtOther, IsAtHigh, StandsAtRun}
@@ -39,16 +31,13 @@ Leaves v w = w ≡ now_holds Free v
 
 -- of what a hold knows of the data words
 abbrev pub IfHeld : Held Content → (Content → Type 0) → Type 0
-IfHeld Free P = Unit {0}
 IfHeld (Reading n x) P = P x
 IfHeld (Writing x found) P = P x
-IfHeld Torn P = Unit {0}
+IfHeld other P = Unit {0}
 
 abbrev pub IfWriting : Held Content → (Content → Content → Type 0) → Type 0
-IfWriting Free P = Unit {0}
-IfWriting (Reading n x) P = Unit {0}
 IfWriting (Writing x found) P = P x found
-IfWriting Torn P = Unit {0}
+IfWriting other P = Unit {0}
 
 abbrev pub ReadsLow : V → ℕ → V → Type 0
 ReadsLow v found w = (w ≡ v) × IfHeld v.tally.hold (λ x. found ≡ x.low)
@@ -88,10 +77,9 @@ EndsUnchanged z opening a v w = (w.tally.hold ≡ v.tally.hold) × IfWriting v.t
 
 -- one hold stands
 abbrev pub IsOn : {X : Type 0} → Held X → Type 0
-IsOn Free = ⊥
 IsOn (Reading n x) = n ≡ 0
 IsOn (Writing x found) = Unit {0}
-IsOn Torn = ⊥
+IsOn other = ⊥
 
 -- where this is stored after the low word that is known, the value is what the act makes of it
 abbrev pub IsRight : {T : Type 0} → Arithmetic T → AtomicAct → ℕ → Held Content → Type 0

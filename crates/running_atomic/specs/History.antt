@@ -1,14 +1,6 @@
 -- What is known of the history, and which places of it are own acts.
-use Rattle.running_atomic.specs.Names.{◌≡◌, ℕ, Bool, List, [], ◌∷◌, Some, None, Held, Free, TellsSame, both_held, both_counts, counts_swap, counts_group}
-use Rattle.std.proofs.Common.{refl, zero, suc}
-use Rattle.running_passes.specs.Tallies.{IsTally}
-use Rattle.running_tallies.specs.HeldTally.{held_adds_up}
-use Rattle.running_atomic.specs.declared.history.Content.{Content}
-use Rattle.running_atomic.specs.declared.history.AtomicAct.{AtomicAct}
-use Rattle.running_atomic.specs.declared.history.Place.{Place}
-use Rattle.running_atomic.specs.declared.history.Heard.{Heard}
-use Rattle.running_atomic.specs.declared.history.AtomicTally.{AtomicTally}
-use Rattle.running_atomic.specs.Alike.{Tells, same_by, told_by, tells_same, number_at}
+use Rattle.running_atomic.specs.Names.{◌≡◌, ℕ, Bool, List, [], ◌∷◌, Some, None, Held, Free, TellsSame, both_held, both_counts, counts_swap, counts_group, refl, zero, suc, IsTally, held_adds_up, Content, AtomicAct, Place, Heard, AtomicTally, arith, nat_tests, eqb-true, eqb-false}
+use Rattle.running_atomic.specs.Alike.{Tells, same_by, told_by, number_at}
 use Rattle.running_atomic.specs.Agree.{merge, merge_idem, merge_comm, merge_assoc}
 
 abbrev pub content : ℕ → ℕ → Content
@@ -27,11 +19,8 @@ content_numbers x = words_of x []
 abbrev pub same_content : Content → Content → Bool
 same_content = same_by content_numbers
 
-contents_tell : Tells same_content
-contents_tell = told_by content_numbers (λ ns. content_at ns 0) (λ x. refl)
-
 pub tells_same_content : TellsSame same_content
-tells_same_content = tells_same same_content contents_tell
+tells_same_content = grind (arith, nat_tests, eqb-true, eqb-false)
 
 -- an act as numbers: which it is, and what it was handed
 abbrev pub act_numbers : AtomicAct → List ℕ
@@ -67,21 +56,7 @@ abbrev read_back : List ℕ → AtomicAct
 read_back ns = act_by (number_at ns 0) (content_at ns 1) (content_at ns 3)
 
 reads_back : (a : AtomicAct) → read_back (act_numbers a) ≡ a
-reads_back AtomicAct.Load = refl
-reads_back (AtomicAct.Store x) = refl
-reads_back (AtomicAct.Swap x) = refl
-reads_back (AtomicAct.CompareExchange x y) = refl
-reads_back (AtomicAct.CompareExchangeWeak x y) = refl
-reads_back (AtomicAct.FetchAdd x) = refl
-reads_back (AtomicAct.FetchSub x) = refl
-reads_back (AtomicAct.FetchAnd x) = refl
-reads_back (AtomicAct.FetchOr x) = refl
-reads_back (AtomicAct.FetchXor x) = refl
-reads_back (AtomicAct.FetchNand x) = refl
-reads_back (AtomicAct.FetchMax x) = refl
-reads_back (AtomicAct.FetchMin x) = refl
-reads_back (AtomicAct.FetchUpdate None) = refl
-reads_back (AtomicAct.FetchUpdate (Some x)) = refl
+reads_back a = grind (arith, nat_tests, eqb-true, eqb-false)
 
 abbrev pub same_act : AtomicAct → AtomicAct → Bool
 same_act = same_by act_numbers

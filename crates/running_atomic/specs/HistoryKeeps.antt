@@ -1,11 +1,6 @@
 -- What is known of the history, and which acts are own, as it grows.
-use Rattle.running_atomic.specs.Names.{Arithmetic, count_at, one_more, both_counts, RegisterAct}
-use Rattle.std.proofs.Common.{◌≡◌, ℕ, zero, suc, ◌≤◌, List, [], ◌∷◌, ◌++◌, length, sym, refl, ap, ◌∙◌, subst, arith}
-use Rattle.running_tallies.specs.CountLaws.{in_both, more_in_both}
-use Rattle.running_atomic.specs.declared.history.AtomicAct.{AtomicAct}
-use Rattle.running_atomic.specs.declared.history.Place.{Place}
-use Rattle.running_atomic.specs.declared.history.Place.TheVariants.{Unknown, Is, Torn}
-use Rattle.running_atomic.specs.declared.history.Heard.{Heard}
+use Rattle.running_atomic.specs.Names.{Arithmetic, count_at, one_more, both_counts, RegisterAct, ◌≡◌, ℕ, zero, suc, ◌≤◌, List, [], ◌∷◌, ◌++◌, length, sym, refl, ap, ◌∙◌, subst, arith, in_both, more_in_both, AtomicAct, Place, Heard}
+use Rattle.running_atomic.specs.declared.history.Place.TheVariants.{Is}
 use Rattle.running_atomic.specs.Agree.{merge, met_is, met_else, by_same, merge_idem, merge_comm, merge_assoc}
 use Rattle.running_atomic.specs.History.{both_heard, same_act, acts_tell}
 use Rattle.running_atomic.specs.AtomicRule.{prefix, known, each_once, acts_in, act_in, history_in}
@@ -39,32 +34,13 @@ pub grows : (h l : List AtomicAct) (v r : Places) → M v r ≡ known h → M (k
 grows h l v r is = let g : Places = known (h ++ l) in
     ap (λ (x : Places). M x r) (sym (known_more h l)) ∙ merge_assoc same_act acts_tell g (known h) r ∙ ap (M g) (absorbs v r (known h) is) ∙ known_more h l
 
-abbrev IsTorn : Place AtomicAct → Type 0
-IsTorn Unknown = ⊥
-IsTorn (Is a) = ⊥
-IsTorn Torn = Unit {0}
-
-abbrev IsSome : Places → Type 0
-IsSome [] = ⊥
-IsSome (x ∷ xs) = Unit {0}
-
-abbrev first : Places → Place AtomicAct
-first [] = Unknown
-first (x ∷ xs) = x
-
-abbrev others : Places → Places
-others [] = []
-others (x ∷ xs) = xs
-
 -- what is known of a history from the first act on begins it
 starts : (h : List AtomicAct) (p : Places) → M (known h) p ≡ known h → StartsWith h (prefix p)
-starts h [] is = (h, refl)
-starts h (Unknown ∷ p) is = (h, refl)
-starts h (Torn ∷ p) is = (h, refl)
-starts [] (Is x ∷ p) is = absurd (subst IsSome is tt)
+starts [] (Is x ∷ p) is = absurd cc
 starts (y ∷ h) (Is x ∷ p) is = by_same same_act acts_tell _ y x
-    (λ same. let t = starts h p (ap others is) in (t.0, (λ i. same i ∷ t.1 i)))
-    (λ apart. absurd (subst IsTorn (sym (met_else same_act acts_tell y x apart) ∙ ap first is) tt))
+    (λ same. let rest : M (known h) p ≡ known h = cc in let t = starts h p rest in (t.0, (λ i. same i ∷ t.1 i)))
+    (λ apart. let torn = met_else same_act acts_tell y x apart in absurd cc)
+starts h other is = (h, refl)
 
 pub prefix_known : (h : List AtomicAct) → prefix (known h) ≡ h
 prefix_known [] = refl

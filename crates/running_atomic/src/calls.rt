@@ -296,7 +296,7 @@ impl<T: AtomicInteger, A: Allocator> Atomic<T, A> {
 /// Whenever the rule of an atomic holds there is one history: what each pass has seen begins it, each act in it is one pass's own, and
 /// while no write hold stands the data words are the register after it. It is, act for act and in order, that of a run of the model in
 /// which all passes are the parties. Says so of the rule alone, and does nothing.
-#[tactic(auto, using(crate::proofs::OneHistory::one_history))]
+#[tactic(auto, using(crate::proofs::Runs::one_history))]
 pub fn one_history<T: AtomicInteger>()
     ensures one { OneHistory T.arithmetic }
 {}

@@ -47,7 +47,7 @@ impl<T: AtomicInteger> AtomicPass<T> {
 
     /// One pass from two of the same atomic. It has seen one history, which begins with what each of them had seen; the own acts of both
     /// are its own, and it weighs what both weighed. `Err`, which never comes today, would hand both back.
-    #[tactic(auto, using(crate::proofs::Joins::joins))]
+    #[tactic(auto, using(crate::proofs::Runs::joins))]
     pub fn join<A: Allocator>(
         a: AtomicPass<T>,
         b: AtomicPass<T>,

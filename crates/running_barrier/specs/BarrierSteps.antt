@@ -1,8 +1,5 @@
 -- What holds whenever the rule of a barrier does, and what a step changes in a pass.
-use Rattle.running_barrier.specs.Names.{◌≡◌, ◌≢◌, ℕ, ◌+◌, ◌%◌, ◌^◌, ◌<◌, ◌≤◌, [], ◌∷◌, sum, Word, BarrierPlace, epoch_of, count_of, barrier_model, View, IsWhole, total, stale, view_of, looked, missed, sum_of, IsCounted, Played, none_played, both_played, PlaysAndCounts, IsOfARun, Rounds, BarrierScript, one_more, in_round, no_rounds, both_rounds, reaching, word_of, AreRoundsIn}
-use mathlib.Core.Option.{some}
-use lib.ListN.{get_elem?}
-use Rattle.atomic_table.specs.Table.{State}
+use Rattle.running_barrier.specs.Names.{◌≡◌, ◌≢◌, ℕ, ◌+◌, ◌%◌, ◌^◌, ◌<◌, ◌≤◌, [], ◌∷◌, sum, Word, BarrierPlace, epoch_of, count_of, barrier_model, View, IsWhole, total, stale, view_of, looked, missed, sum_of, IsCounted, Played, none_played, both_played, PlaysAndCounts, IsOfARun, Rounds, BarrierScript, one_more, in_round, no_rounds, both_rounds, reaching, word_of, AreRoundsIn, some, get_elem?, State}
 
 -- what the pass of a barrier knows
 abbrev pub BarrierView : Type 0

@@ -1,24 +1,13 @@
 -- What becomes of what a pass knows over several exchanges.
-use Rattle.running_guarded.specs.Names.{Bool, true, false, MatchBool, Some, None, List, Bor, Shared, seen_instead, MayAnswerContinue, WaitAction, Call, HoldKind, MutexPlace, mutex_model, Slot, all_of, Coming, Going, Beginning, Answered, ComesBy, MayStep, spun, IsGranted, IsRefused, IsStanding, HasMutex, IsLocked, Locks, Enters}
-use Rattle.running_guarded.proofs.Names.{◌≡◌, ◌≤◌, ◌<◌, ℕ, ◌+◌, [], ◌∷◌, refl, ap, subst, arith, may_lock, lock_begins, lock_goes, granted_has}
-use Rattle.model_events.specs.declared.event.Word.{Word}
-use Rattle.model_events.specs.declared.row.Intent.{Intent}
+use Rattle.running_guarded.proofs.Names.{Bool, true, false, MatchBool, Some, None, List, Bor, Shared, seen_instead, MayAnswerContinue, WaitAction, Call, HoldKind, MutexPlace, mutex_model, Slot, all_of, Coming, Going, Beginning, Answered, ComesBy, MayStep, spun, IsGranted, IsRefused, IsStanding, IsLocked, Locks, Enters, ◌≡◌, ◌≤◌, ◌<◌, ℕ, ◌+◌, [], ◌∷◌, refl, ap, subst, arith, may_lock, lock_begins, lock_goes, Word, Intent, Patience, spins_on, stands, tries_on, MutexView, SeesLocked, Tries, SeesLockedOften, GivesUp, nat_tests, eqb-true, eqb-false}
 use Rattle.model_events.specs.Rows.{answered}
-use Rattle.model_events.specs.declared.patience.Patience.{Patience}
-use Rattle.running_model.proofs.Patience.{spins_on, stands, tries_on}
-use Rattle.running_guarded.specs.GuardedRule.{MutexView}
 use Rattle.running_spin_lock.proofs.ValueSights as values
-use Rattle.running_guarded.specs.GuardedSteps.{SeesLocked, Tries, SeesLockedOften, GivesUp}
-
-pub sees_none : (v : MutexView) → IsLocked v.sights.last → SeesLockedOften 0 v v
-sees_none v last = record { only = values.sees_none v; count = omega arith; last = last }
 
 pub sees_once : (v w : MutexView) → SeesLocked v w → SeesLockedOften 1 v w
 sees_once v w is = record { only = values.sees_now (λ s. seen_instead s 0 1) (λ s. refl) v w is; count = ap (λ u. u.sights.count) is; last = ap (λ u. u.sights.last) is }
 
 pub sees_on : (n m : ℕ) (u v w : MutexView) → SeesLockedOften n u v → SeesLockedOften m v w → SeesLockedOften (n + m) u w
-sees_on n m u v w first second = let one = first.count in let two = second.count in
-    record { only = values.sees_later u v w first.only second.only; count = omega (arith, one, two); last = second.last }
+sees_on n m u v w h1 h2 = grind (arith, nat_tests, eqb-true, eqb-false)
 
 pub enters_now : (v w : MutexView) → Locks v w → Enters v w
 enters_now v w locks = values.enters_now v w locks
@@ -33,9 +22,6 @@ pub record GoesOn {F W : Type 0} (g : Shared F (Bor W × (Bor ℕ × Unit {0})) 
   pub before : 1 ≤ answers → MayAnswerContinue g wait IsLocked
 
 module _ {F W : Type 0} (g : Shared F (Bor W × (Bor ℕ × Unit {0})) WaitAction) (wait : F) where
-  pub goes_first : (v : MutexView) → IsLocked v.sights.last → GoesOn g wait v v
-  goes_first v last = record { answers = 0; seen = sees_none v last; before = λ some. absurd (omega (arith, some)) }
-
   pub goes_on : (u v w : MutexView) → GoesOn g wait u v → MayAnswerContinue g wait IsLocked → SeesLocked v w → GoesOn g wait u w
   goes_on u v w gone answer once = record { answers = gone.answers + 1; seen = sees_on gone.answers 1 u v w gone.seen (sees_once v w once); before = λ _. answer }
 
@@ -46,9 +32,6 @@ module _ {F W : Type 0} (g : Shared F (Bor W × (Bor ℕ × Unit {0})) WaitActio
     some = omega arith;
     again = λ often. gone.before (omega (arith, often));
   }
-
-  pub gives_up_later : (n : ℕ) (u v w : MutexView) → SeesLockedOften n u v → GivesUp 0 g wait v w → GivesUp n g wait u w
-  gives_up_later n u v w seen gives = record { more = gives.more; refused = sees_on n gives.more u v w seen (subst (λ n. SeesLockedOften n v w) (omega arith) gives.refused); some = gives.some; again = gives.again }
 
 -- The exchanges of `lock`: that they may be made, and where they lead.
 
@@ -100,7 +83,3 @@ module _ {F W : Type 0} (g : Shared F (Bor W × (Bor ℕ × Unit {0})) WaitActio
   pub ended : (b : Bool) (u v w : MutexView) → GoesOn g wait u v → MatchBool b (Locks v w) (SeesLocked v w) → MatchBool b (Enters u w) (GivesUp 0 g wait u w)
   ended true u v w gone locks = enters_later gone.answers u v w gone.seen (enters_now v w locks)
   ended false u v w gone sees = gives_up g wait u v w gone sees
-
-  pub ended_later : (n : ℕ) (b : Bool) (u v w : MutexView) → SeesLockedOften n u v → MatchBool b (Enters v w) (GivesUp 0 g wait v w) → MatchBool b (Enters u w) (GivesUp n g wait u w)
-  ended_later n true u v w seen enters = enters_later n u v w seen enters
-  ended_later n false u v w seen gives = gives_up_later g wait n u v w seen gives

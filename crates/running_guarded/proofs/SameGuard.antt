@@ -1,12 +1,5 @@
 -- A guard is told by what it has; its facts say nothing more.
-use Rattle.running_guarded.specs.Names.{table_id_coded, HasMutex, has_vacant_slot}
-use Rattle.running_guarded.proofs.Names.{◌≡◌, ◌<◌, true}
-use Rattle.std.proofs.Math.Bool.{Bool-set}
-use Rattle.std.proofs.Math.Nat.{ℕ_set}
-use Rattle.std.proofs.Math.Bridge.{le_prop}
-use base.Stored.{Coded-set}
-use Rattle.running_guarded.specs.declared.guard.Guard.{Guard}
-use Rattle.running_guarded.specs.GuardedShown.{guard_with}
+use Rattle.running_guarded.proofs.Names.{table_id_coded, HasMutex, has_vacant_slot, ◌≡◌, ◌<◌, true, Bool-set, ℕ_set, le_prop, Coded-set, Guard, guard_with}
 
 module _ {T A : Type 0} (g : Guard T A) (x : T) where
   pub same_guard : (own : g.seat.table_id ≡ g.of.now.table.shared.table_id) (on : g.seat.me.0.tally.counts.holds ≡ 1) (has : HasMutex g.seat.me.0.tally.parties) (alive : 0 < g.seat.me.0.part.share) (out : has_vacant_slot g.seat.me.1 ≡ true)

@@ -1,8 +1,5 @@
 -- What a closure did that acts on a value, or cannot yet.
-use Rattle.std.specs.Prelude.{ℕ, Some, None}
-use Rattle.running_passes.specs.declared.wait.WaitResult.{WaitResult}
-use Rattle.running_passes.specs.declared.wait.WaitResult.TheVariants.{Success, Interrupted}
-use Rattle.running_guarded.specs.Names.{MutBor, Mut, CalledAtMut, Option, Often}
+use Rattle.running_guarded.specs.Names.{ℕ, Some, None, WaitResult, Success, Interrupted, MutBor, Mut, CalledAtMut, Option, Often}
 use Rattle.running_guarded.specs.declared.when.Looked.{Looked}
 use Rattle.running_guarded.specs.declared.when.Looked.TheVariants.{Acted, Again, GaveUp}
 

@@ -1,8 +1,5 @@
 -- What a pass of a guarded value knows, and what the rule over all of them says.
-use Rattle.running_passes.specs.declared.view.View.{View}
-use Rattle.running_guarded.specs.Names.{MutexPlace, mutex_model, HasOneHolder, GrantsAreOfARunOf}
-use Rattle.running_tallies.specs.declared.mutex.MutexScript.{MutexScript}
-use Rattle.running_mutex.specs.MutexSteps.{PlayedMutex}
+use Rattle.running_guarded.specs.Names.{View, MutexPlace, mutex_model, HasOneHolder, GrantsAreOfARunOf, MutexScript, PlayedMutex}
 
 -- what a pass knows
 abbrev pub MutexView : Type 0

@@ -1,7 +1,5 @@
 -- What contracts see of a guarded value, its pass and its guard, and what a call changes in a pass.
-use Rattle.running_guarded.specs.Names.{◌≡◌, ℕ, ◌+◌, ◌<◌, ◌≤◌, GName, Bor, Shared, TableId, WaitAction, IsWhole, HasWritten, Often, view_in, Locks, Lets, Enters}
-use Rattle.running_passes.specs.declared.part.Part.{Part}
-use Rattle.running_passes.specs.declared.part.Sights.{Sights}
+use Rattle.running_guarded.specs.Names.{◌≡◌, ℕ, ◌+◌, ◌<◌, ◌≤◌, GName, Bor, Shared, TableId, WaitAction, IsWhole, HasWritten, Often, view_in, Locks, Lets, Enters, Part, Sights}
 use Rattle.running_guarded.specs.declared.pass.GuardedPass.{GuardedPass}
 use Rattle.running_guarded.specs.declared.guard.Guard.{Guard}
 use Rattle.running_guarded.specs.declared.guarded.Guarded.{Guarded}

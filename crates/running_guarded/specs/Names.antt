@@ -13,10 +13,20 @@ pub use Rattle.running_spin_lock.specs.ValueRule.{HasOneHolder, GrantsAreOfARunO
 pub use Rattle.running_spin_lock.specs.ValueSteps.{Locks, Lets, Enters, Sees, OnlySees, has_vacant_slot}
 pub use Rattle.std.specs.Borrow.{MutBor, GName, Bor}
 pub use Rattle.std.specs.Fn.{Mut, CalledAtMut, Shared, Once, FnOnceReturnsAtMut, Called}
-pub use Rattle.std.specs.Prelude.{Option, Some, ◌≡◌, ℕ, ◌+◌, ◌<◌, ◌≤◌, Bool, None, IfSome, true, false, MatchBool, List}
+pub use Rattle.std.specs.Prelude.{Option, Some, ◌≡◌, ℕ, ◌+◌, ◌<◌, ◌≤◌, Bool, None, true, false, MatchBool, List}
 pub use Rattle.model_events.specs.declared.WaitAction.{WaitAction}
 pub use Rattle.model_events.specs.declared.event.Answer.{Answer}
 pub use Rattle.model_events.specs.declared.event.Call.{Call}
 pub use Rattle.model_events.specs.declared.hold.HoldKind.{HoldKind}
 pub use Rattle.model_mutex.specs.declared.MutexPlace.{MutexPlace}
-pub use Rattle.running_tallies.specs.MutexScript.{mutex_model, mutex_lawful}
+pub use Rattle.running_tallies.specs.MutexScript.{mutex_model}
+pub use Rattle.running_passes.specs.declared.wait.WaitResult.{WaitResult}
+pub use Rattle.running_passes.specs.declared.wait.WaitResult.TheVariants.{Success, Interrupted}
+pub use Rattle.running_passes.specs.declared.view.View.{View}
+pub use Rattle.running_tallies.specs.declared.mutex.MutexScript.{MutexScript}
+pub use Rattle.running_mutex.specs.MutexSteps.{PlayedMutex}
+pub use Rattle.running_passes.specs.declared.part.Part.{Part}
+pub use Rattle.running_passes.specs.declared.part.Sights.{Sights}
+pub use Rattle.std.proofs.Common.{arith}
+pub use Rattle.std.proofs.lemmas.Bool.Decides.{nat_tests}
+pub use Rattle.std.proofs.lemmas.Bool.{eqb-true, eqb-false}

@@ -1,15 +1,9 @@
 -- A step of a pass whose seat carries slots may be made.
-use Rattle.running_model.specs.Names.{Word, Call, Event, Intent, Act, carried_out, IsPast, View, Sights, IsTally, IsCounted}
-use Rattle.running_model.proofs.Names.{◌≡◌, ℕ, ◌<◌, refl, sym, subst, List, [], set, get_or}
+use Rattle.running_model.proofs.Names.{Word, Call, Event, Intent, Act, carried_out, IsPast, View, Sights, IsTally, IsCounted, ◌≡◌, ℕ, ◌<◌, refl, sym, subst, List, [], set, get_or, Model, Played, AreApart, effect, Coming, MayStep, none_played, both_played, core_played, played_add_up, StaysOnNoWord, GoesOnByActs, HasNeeds, SteppedByAct}
 use mathlib.Core.Option as maybe
 use Rattle.atomic_table.specs.Table.{Me, Allows, homes_after}
 use Rattle.running_passes.proofs.Parts.{shared_step}
 use Rattle.running_passes.proofs.Sums.{others, sum_at, sum_set, alone}
-use Rattle.running_model.specs.Models.{Model}
-use Rattle.running_model.specs.declared.played.Played.{Played}
-use Rattle.running_model.specs.Words.{AreApart, effect}
-use Rattle.running_model.specs.Plays.{Coming, MayStep}
-use Rattle.running_model.specs.Passes.{none_played, both_played, core_played, played_add_up, StaysOnNoWord, GoesOnByActs, HasNeeds, SteppedByAct}
 use Rattle.running_model.specs.Carrying.{MovesByCounts, PlaysAndCarries}
 use Rattle.running_model.proofs.Updates.{adds_nothing, updates_by_act}
 

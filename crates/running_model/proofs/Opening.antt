@@ -1,11 +1,6 @@
 -- The words stand at a run in which nobody has made anything.
-use Rattle.running_model.specs.Names.{Word, Event, IsPast}
-use Rattle.running_model.proofs.Names.{ℕ, refl, List, []}
+use Rattle.running_model.proofs.Names.{Word, Event, IsPast, ℕ, refl, List, [], Model, no_parties, AllHold, played, PlaysAndCounts}
 use mathlib.Core.Option as maybe
-use Rattle.running_model.specs.Models.{Model}
-use Rattle.running_model.specs.Slots.{no_parties}
-use Rattle.running_model.specs.Words.{AllHold}
-use Rattle.running_model.specs.Passes.{played, PlaysAndCounts}
 
 pub opens :
     {M Q V C P S : Type 0} (m : Model V P) (names : List Word) (agree : List ℕ → List (maybe.Option S) → C → Type 0) (follow : List (Event V) → C → Type 0) (found : List ℕ) (homes : List (maybe.Option S)) (counts : C) →

@@ -1,9 +1,5 @@
 -- How a call is over.
-use Rattle.running_model.specs.Names.{MatchBool, Call, Answer, HoldKind}
-use Rattle.running_model.proofs.Names.{Bool, true, false, List, Option, None}
-use Rattle.running_model.specs.Models.{Model}
-use Rattle.running_model.specs.Slots.{Slot, Parties}
-use Rattle.running_model.specs.Plays.{HasEnded}
+use Rattle.running_model.proofs.Names.{MatchBool, Call, Answer, HoldKind, Bool, List, Option, None, Model, Slot, Parties, HasEnded, nat_tests, eqb-true, eqb-false, arith}
 use Rattle.running_model.specs.Turns.{IsOver}
 
 module _ {V P : Type 0} (m : Model V P) where
@@ -13,5 +9,4 @@ module _ {V P : Type 0} (m : Model V P) where
   -- by a grant, or it gave up
   pub either_is_over : (granted : Bool) (call : Call V) (hold : Option HoldKind) (done : List (Slot V)) (p : Parties V) →
       MatchBool granted (HasEnded m call Answer.Success hold done p) (HasEnded m call Answer.Interrupted None done p) → IsOver m p
-  either_is_over true call hold done p ended = is_over call Answer.Success hold done p ended
-  either_is_over false call hold done p ended = is_over call Answer.Interrupted None done p ended
+  either_is_over granted call hold done p h1 = grind (arith, nat_tests, eqb-true, eqb-false)

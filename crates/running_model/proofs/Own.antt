@@ -1,8 +1,5 @@
 -- The events of one party tell its call and its hold.
-use Rattle.running_model.specs.Names.{nat_lt, Act, Event, Then, StepFault, HoldKind, PendingCall, call_of, call_after, hold_of, hold_after, event, fault_at, IsPast, Table}
-use Rattle.running_model.proofs.Names.{◌≡◌, ◌≢◌, ℕ, ◌<◌, ◌≤◌, ◌==◌, refl, sym, ap, ◌∙◌, subst, Bool, true, false, cond, List, [], ◌∷◌, Option, Some, None, ◌⊎◌, inl, inr, arith, nat_tests, eqb_tells, eqb_other, hold_of_same, hold_of_other}
-use Rattle.running_model.specs.Models.{Model}
-use Rattle.running_model.specs.Plays.{events_of}
+use Rattle.running_model.proofs.Names.{nat_lt, Act, Event, Then, StepFault, HoldKind, PendingCall, call_of, call_after, hold_of, hold_after, event, fault_at, IsPast, Table, ◌≡◌, ◌≢◌, ℕ, ◌<◌, ◌≤◌, ◌==◌, refl, sym, ap, ◌∙◌, subst, Bool, true, false, cond, List, [], ◌∷◌, Option, Some, None, ◌⊎◌, inl, inr, arith, nat_tests, eqb_tells, eqb_other, hold_of_same, hold_of_other, Model, events_of, eqb-true, eqb-false}
 
 pub events_of_other : {V : Type 0} (q p : ℕ) (act : Act V) (outcome : Then V) (past : List (Event V)) → p ≢ q → events_of p (event q act outcome ∷ past) ≡ events_of p past
 events_of_other q p act outcome past other = rw (eqb_other q p other) refl
@@ -36,11 +33,7 @@ module _ {V P : Type 0} (m : Model V P) where
   -- a party that is not there has made nothing
 
   below : (party n : ℕ) (fault : Option StepFault) → cond (nat_lt party n) fault (Some StepFault.NoParty) ≡ None → party < n
-  below party n fault is = by_test (nat_lt party n) refl is
-    where
-      by_test : (b : Bool) → nat_lt party n ≡ b → cond b fault (Some StepFault.NoParty) ≡ None → party < n
-      by_test true test is = grind (arith, nat_tests)
-      by_test false test is = absurd cc
+  below party n fault h1 = grind (arith, nat_tests, eqb-true, eqb-false)
 
   pub absent : (n q : ℕ) (past : List (Event V)) → n ≤ q → IsPast m.arithmetic m.table n past → events_of q past ≡ []
   absent n q [] apart run = refl

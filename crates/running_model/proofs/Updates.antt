@@ -1,32 +1,15 @@
 -- A step that the table has may be made.
-use Rattle.running_model.specs.Names.{Word, Call, Event, HoldKind, Intent, Act, carried_out, value_told, hold_after, word_in, IsPast, View, Sights, IsTally, Updates, view_of}
-use Rattle.running_model.proofs.Names.{◌≡◌, ℕ, zero, suc, refl, sym, ap, subst, ◌∙◌, Bool, true, false, cond, List, [], ◌∷◌, Option, Some, set, get_or, eqb_same}
+use Rattle.running_model.proofs.Names.{Word, Call, Event, HoldKind, Intent, Act, carried_out, value_told, hold_after, word_in, IsPast, View, Sights, IsTally, Updates, view_of, ◌≡◌, ℕ, refl, sym, ap, subst, ◌∙◌, Bool, cond, List, ◌∷◌, Option, Some, set, get_or, eqb_same, Model, Played, Slot, Free, Mine, both, all, slot_at, only, all_of, Parties, both_parties, slot_of_all, AllHold, AreApart, IsStepOn, IsOnNoWord, effect, fresh_call, Coming, IsPlayed, act_at, Leads, Led, IsStepAt, MayStep, Went, HasStepped, WentBy, events_of, played, none_played, both_played, PlaysAndCounts, HasNeeds, GoesOnByActs, StaysOnNoWord, SameOnNoWord, SteppedByAct, Learned, nat_tests, eqb-true, eqb-false, arith}
 use mathlib.Core.Option as maybe
 use prog.Atomic.{either}
-use Rattle.running_model.specs.Models.{Model}
-use Rattle.running_model.specs.declared.played.Played.{Played}
-use Rattle.running_model.specs.Slots.{Slot, Free, Mine, Torn, both, all, slot_at, only, all_of, Parties, both_parties}
-use Rattle.running_model.specs.SlotLaws.{slot_of_all}
-use Rattle.running_model.specs.Words.{AllHold, AreApart, IsStepOn, IsOnNoWord, effect}
-use Rattle.running_model.specs.Plays.{fresh_call, Coming, IsPlayed, act_at, Leads, Led, IsStepAt, MayStep, Went, HasStepped, WentBy, ComesBy, events_of}
-use Rattle.running_model.specs.Passes.{played, none_played, both_played, PlaysAndCounts, HasNeeds, GoesOnByActs, StaysOnNoWord, SameOnNoWord, SteppedByAct, Learned}
+use lib.Seq.{set-get_or}
 use Rattle.running_model.proofs.Words.{hold_at, carried_here}
-use Rattle.running_model.proofs.Same.{same_coming}
-use Rattle.running_model.proofs.Ready.{AllMatch, ready, still, came, step_event, steps}
+use Rattle.running_model.proofs.Same.{wherever}
+use Rattle.running_model.proofs.Ready.{AllMatch, still, ready, step_event, steps}
 use Rattle.running_model.proofs.Own.{own_call}
 
 free_first : {V : Type 0} (s r : Slot V) → both s r ≡ Free → s ≡ Free
-free_first Free r is = refl
-free_first (Mine own) Free is = is
-free_first (Mine own) (Mine more) is = absurd cc
-free_first (Mine own) Torn is = absurd cc
-free_first Torn r is = is
-
--- to set a word to what it holds changes nothing
-set_as_it_was : (found : List ℕ) (i : ℕ) → set found i (get_or found i 0) ≡ found
-set_as_it_was [] i = refl
-set_as_it_was (x ∷ xs) zero = refl
-set_as_it_was (x ∷ xs) (suc i) = ap (λ (ys : List ℕ). x ∷ ys) (set_as_it_was xs i)
+free_first s r h1 = grind (arith, nat_tests, eqb-true, eqb-false)
 
 module _ {V P : Type 0} (m : Model V P) (names : List Word) where
   -- The step, by what it does: what it leaves in the word, and what it tells of it. What was known of the run before it, and what acts on no
@@ -62,9 +45,8 @@ module _ {V P : Type 0} (m : Model V P) (names : List Word) where
       let x : ℕ = get_or found i 0 in
       let on : IsStepOn may.name (m.table.intent may.place may.hold) = subst (IsStepOn may.name) (sym may.intends) may.on in
       let left : effect (m.table.intent may.place may.hold) x ≡ y = ap (λ (k : Intent V). effect k x) may.intends ∙ leaves may.name in
-      let before = ready m names coming found p rest may.call may.place may.hold may.done r may.comes in
-      let was = came m names coming found p rest may.call may.place may.hold may.done r may.comes in
-      let made = steps m names lawful apart found may.done rest may.call may.place may.hold i y may.name before may.named on left in
+      let before = ready m names found p rest may.call may.place may.hold may.done r coming may.comes in
+      let made = steps m names lawful apart r.past found p may.done rest may.call may.place may.hold i y may.name before may.named on left in
       let same : act_at m may.place may.hold x ≡ act_at m may.place may.hold told =
       ap (λ (k : Intent V). carried_out k (λ _. x)) may.intends ∙ tells may.name ∙ sym (ap (λ (k : Intent V). carried_out k (λ _. told)) may.intends) in
       let led : Led m may.call may.place may.hold told may.done made.after =
@@ -76,7 +58,7 @@ module _ {V P : Type 0} (m : Model V P) (names : List Word) where
         after = made.after;
         past = before.past;
         latest = step_event m names before.party may.place may.hold x;
-        says = still m names Says quiet coming found p rest may.call may.place may.hold may.done r may.comes says;
+        says = still Says quiet r.past before.past before.later says;
         words = before.words;
         step = record {
           parties = made.parties;
@@ -96,42 +78,24 @@ module _ {V P : Type 0} (m : Model V P) (names : List Word) where
         law = made.law;
         hold_now = made.hold;
         each = made.each;
-        went = λ call place hold done comes.
-            let here = same_coming m coming may.call call may.place place may.hold hold may.done done p may.comes comes in
-            subst (λ c. Led m c place hold told done made.after) here.same_call
-            (subst (λ s. Led m may.call s hold told done made.after) here.same_place
-            (subst (λ h. Led m may.call may.place h told done made.after) here.same_hold
-            (subst (λ d. Led m may.call may.place may.hold told d made.after) here.same_done led)));
-        by = λ call place hold done comes.
-            let here = same_coming m coming may.call call may.place place may.hold hold may.done done p may.comes comes in
-            subst (λ c. HasStepped m c place hold told done p made.after) here.same_call
-            (subst (λ s. HasStepped m may.call s hold told done p made.after) here.same_place
-            (subst (λ h. HasStepped m may.call may.place h told done p made.after) here.same_hold
-            (subst (λ d. HasStepped m may.call may.place may.hold told d p made.after) here.same_done (record {
-              party = before.party;
-              own = was.own;
-              before = events_of before.party before.past;
-              latest = step_event m names before.party may.place may.hold x;
-              pending = before.pending;
-              was = was.was;
-              since = was.since;
-              under_way = own_call before.party before.past ∙ before.under_way;
-              called = before.called;
-              its_own = refl;
-              act = same;
-              free = free_first (slot_at before.party may.done) (slot_at before.party (all_of rest)) (sym (slot_of_all before.party may.done (all_of rest)) ∙ before.apart.free);
-              now = made.now ∙ ap (λ (o : List (Event V)). all (only before.party (Mine o)) may.done) (rw (eqb_same before.party) refl);
-            }))));
+        went = wherever m coming (λ call place hold done. Led m call place hold told done made.after) may.call may.place may.hold may.done p may.comes led;
+        by = wherever m coming (λ call place hold done. HasStepped m call place hold told done p made.after) may.call may.place may.hold may.done p may.comes (record {
+          party = before.party;
+          own = before.own;
+          before = events_of before.party before.past;
+          latest = step_event m names before.party may.place may.hold x;
+          pending = before.pending;
+          was = before.was;
+          since = before.since;
+          under_way = own_call before.party before.past ∙ before.under_way;
+          called = before.called;
+          its_own = refl;
+          act = same;
+          free = free_first (slot_at before.party may.done) (slot_at before.party (all_of rest)) (sym (slot_of_all before.party may.done (all_of rest)) ∙ before.apart.free);
+          now = made.now ∙ ap (λ (o : List (Event V)). all (only before.party (Mine o)) may.done) (rw (eqb_same before.party) refl);
+        });
         found_is = act_in r.past r.hold;
       }
-
-  -- by whichever place it came
-  pub found_so : (coming : Coming V) (p : Parties V) (i told : ℕ) (intent : Word → Intent V) (may : MayStep m names coming i intent p) (before : List (Event V)) → act_at m may.place may.hold told ≡ carried_out (m.table.intent may.place may.hold) (word_in m.table before) →
-      (call : Call V) (place : P) (hold : Option HoldKind) (done : List (Slot V)) → ComesBy m coming call place hold done p → act_at m place hold told ≡ carried_out (m.table.intent place hold) (word_in m.table before)
-  found_so coming p i told intent may before is call place hold done comes =
-      let here = same_coming m coming may.call call may.place place may.hold hold may.done done p may.comes comes in
-      subst (λ s. act_at m s hold told ≡ carried_out (m.table.intent s hold) (word_in m.table before)) here.same_place
-      (subst (λ h. act_at m may.place h told ≡ carried_out (m.table.intent may.place h) (word_in m.table before)) here.same_hold is)
 
   -- beside it the pass counts as it may
   module _ {M Q C : Type 0} (none : C) (add : C → C → C) (unit : (c : C) → add c none ≡ c) (agree : List ℕ → List (maybe.Option (Unit {0})) → C → Type 0) (follow : List (Event V) → C → Type 0) where
@@ -173,11 +137,10 @@ module _ {V P : Type 0} (m : Model V P) (names : List Word) where
                   rest = rest.counts;
                   says = r.follows;
                   alone = λ whole. (ap (λ (u : Played M Q V C). u.parties) (alone whole), says_alone v rest (alone whole) r.played.past r.follows);
-                  found_is = found_so coming v.tally.parties i (shows x) intent may r.played.past a.found_is;
+                  found_is = wherever m coming (λ _ place hold _. act_at m place hold (shows x) ≡ carried_out (m.table.intent place hold) (word_in m.table r.played.past)) may.call may.place may.hold may.done v.tally.parties may.comes a.found_is;
                 };
-                told = λ call place hold done comes.
-                    let here = same_coming m coming may.call call may.place place may.hold hold may.done done v.tally.parties may.comes comes in
-                    λ j. view_of v.part (sees (act_at m (here.same_place j) (here.same_hold j) (shows x)) v.sights) (after r.played.past (here.same_place j) (act_at m (here.same_place j) (here.same_hold j) (shows x)) (here.same_call j) v.tally.counts);
+                told = wherever m coming (λ call place hold _. view_of v.part (sees act v.sights) counts ≡ view_of v.part (sees (act_at m place hold (shows x)) v.sights) (after r.played.past place (act_at m place hold (shows x)) call v.tally.counts))
+                    may.call may.place may.hold may.done v.tally.parties may.comes refl;
               };
             },
           );
@@ -199,10 +162,10 @@ module _ {V P : Type 0} (m : Model V P) (names : List Word) where
                 past = r.played.past;
                 run = r.played.run;
                 law = r.played.law;
-                hold = subst (λ (ws : List ℕ). AllHold names ws (word_in m.table r.played.past)) (sym (set_as_it_was found i)) r.played.hold;
+                hold = subst (λ (ws : List ℕ). AllHold names ws (word_in m.table r.played.past)) (sym (set-get_or found i 0)) r.played.hold;
                 each = r.played.each;
               };
-              agrees = subst (λ (ws : List ℕ). agree ws homes (add knows rest.counts)) (sym (set_as_it_was found i)) (subst (agree found homes) as_before r.agrees);
+              agrees = subst (λ (ws : List ℕ). agree ws homes (add knows rest.counts)) (sym (set-get_or found i 0)) (subst (agree found homes) as_before r.agrees);
               follows = subst (follow r.played.past) as_before r.follows;
             },
             record { parties = r.played.parties; past = r.played.past; run = r.played.run; rest = rest.counts; says = r.follows; now = refl },
@@ -215,5 +178,4 @@ adds_nothing none add core laws c = laws.swap c none ∙ laws.unit c
 -- what an exchange leaves, by either choice
 
 pub either_is : (b : Bool) (x y : ℕ) → cond b x y ≡ either b x y
-either_is true x y = refl
-either_is false x y = refl
+either_is b x y = grind (arith, nat_tests, eqb-true, eqb-false)

@@ -1,6 +1,5 @@
 -- Counts that are a sum over the acts of a run.
-use Rattle.running_model.specs.Names.{◌≡◌, ℕ, ◌+◌, if◌then◌else◌, List, [], ◌∷◌, Option, None, Act, Event, HoldKind, PendingCall, call_of, holds_of, hold_taken, is_release, with_hold, without, Table, IsTally}
-use Rattle.std.proofs.Common.{ap, sym, ◌∙◌, refl, arith}
+use Rattle.running_model.specs.Names.{◌≡◌, ℕ, ◌+◌, if◌then◌else◌, List, [], ◌∷◌, Option, None, Act, Event, HoldKind, PendingCall, call_of, holds_of, hold_taken, Table, IsTally, ap, sym, ◌∙◌, arith, nat_tests, eqb-true, eqb-false}
 use Rattle.running_model.specs.Holding.{is_kind}
 use Rattle.running_model.specs.Words.{IsOnNoWord, on_no_word}
 use Rattle.running_model.specs.Passes.{StaysOnNoWord}
@@ -21,8 +20,7 @@ module _ {V C : Type 0} (first : C) (add : C → C → C) (count : Act V → Opt
 
   -- what a party counts by its act, all count
   pub next_sum : (none : C) (core : C → C) → IsTally none add core → (past : List (Event V)) (e : Event V) (before after rest : C) → after ≡ add (count e.act (call_of e.party past)) before → IsSumOf past (add before rest) → IsSumOf (e ∷ past) (add after rest)
-  next_sum none core laws past e before after rest step is =
-      let more : C = count e.act (call_of e.party past) in ap (λ (c : C). add c rest) step ∙ laws.group more before rest ∙ ap (add more) is
+  next_sum none core h1 past e before after rest h2 h3 = grind (arith, nat_tests, eqb-true, eqb-false)
 
 -- Grants: a call is granted with the act that takes a hold.
 
@@ -32,22 +30,11 @@ numbers_add_up = record { unit = λ n. omega arith; swap = λ n m. omega arith; 
 -- two numbers add up, each by itself
 pub pairs_add_up : {C : Type 0} (pair : ℕ → ℕ → C) (first second : C → ℕ) → ((n m : ℕ) → first (pair n m) ≡ n) → ((n m : ℕ) → second (pair n m) ≡ m) → ((t : C) → pair (first t) (second t) ≡ t) →
     IsTally (pair 0 0) (λ t u. pair (first t + first u) (second t + second u)) (λ _. pair 0 0)
-pairs_add_up {C} pair first second one two whole = record { unit = unit; swap = λ t u. same _ _ _ _ (omega arith) (omega arith); group = group; copy = unit }
-  where
-    same : (a b c d : ℕ) → a ≡ b → c ≡ d → pair a c ≡ pair b d
-    same a b c d left right = λ i. pair (left i) (right i)
-
-    unit : (t : C) → pair (first (pair 0 0) + first t) (second (pair 0 0) + second t) ≡ t
-    unit t = same _ (first t) _ (second t) (omega (arith, one 0 0)) (omega (arith, two 0 0)) ∙ whole t
-
-    group : (t u v : C) → pair (first (pair (first t + first u) (second t + second u)) + first v) (second (pair (first t + first u) (second t + second u)) + second v)
-        ≡ pair (first t + first (pair (first u + first v) (second u + second v))) (second t + second (pair (first u + first v) (second u + second v)))
-    group t u v = same _ _ _ _ (omega (arith, one (first t + first u) (second t + second u), one (first u + first v) (second u + second v))) (omega (arith, two (first t + first u) (second t + second u), two (first u + first v) (second u + second v)))
+pairs_add_up pair first second h1 h2 h3 = grind (arith, nat_tests, eqb-true, eqb-false)
 
 -- what takes no hold grants none
 pub no_kind : (kind : HoldKind) → ◌≡◌ {A = ℕ} (if is_kind kind None then 1 else 0) 0
-no_kind HoldKind.Read = refl
-no_kind HoldKind.Write = refl
+no_kind kind = grind (arith, nat_tests, eqb-true, eqb-false)
 
 module _ {V P : Type 0} (t : Table V P) (kind : HoldKind) where
   -- whether an act of a call takes a hold of this kind, as a number
@@ -69,5 +56,4 @@ module _ {V P : Type 0} (t : Table V P) (kind : HoldKind) where
 
 -- acts on no word take no hold, and end none
 pub quiet_holds : {V P : Type 0} (t : Table V P) (past : List (Event V)) (e : Event V) → IsOnNoWord e.act → holds_of t (e ∷ past) ≡ holds_of t past
-quiet_holds t past e = on_no_word (λ act. (if is_release act then without e.party (holds_of t past) else with_hold e.party (hold_taken t act (call_of e.party past)) (holds_of t past)) ≡ holds_of t past)
-    (λ call. refl) (λ action. refl) (λ choice. refl) (λ wake. refl) refl (λ value. refl) e.act
+quiet_holds t past e h1 = grind (arith, nat_tests, eqb-true, eqb-false)

@@ -1,5 +1,5 @@
 -- The words of an object, by the names that they have in its model.
-use Rattle.running_model.specs.Names.{◌≡◌, ℕ, zero, suc, ◌+◌, ◌-◌, ◌%◌, ◌^◌, ◌==◌, false, if◌then◌else◌, List, [], ◌∷◌, Option, Word, Wake, Call, WaitAction, Intent, Act, same_word}
+use Rattle.running_model.specs.Names.{◌≡◌, ℕ, zero, suc, ◌+◌, ◌-◌, ◌%◌, ◌^◌, ◌==◌, false, if◌then◌else◌, List, [], ◌∷◌, Option, Word, Wake, Call, WaitAction, Intent, Act, same_word, nat_tests, eqb-true, eqb-false, arith}
 
 -- each word holds what the memory tells of its name
 abbrev pub AllHold : List Word → List ℕ → (Word → ℕ) → Type 0
@@ -53,13 +53,7 @@ IsOnNoWord other = ⊥
 -- what is so of each of these acts is so of every act on no word
 pub on_no_word : {V : Type 0} (Says : Act V → Type 0) → ((call : Call V) → Says (Act.Begun call)) → ((action : WaitAction) → Says (Act.Answered action)) → ((choice : Option V) → Says (Act.Chosen choice)) →
     ((wake : Wake) → Says (Act.Woke wake)) → Says Act.Ended → ((value : V) → Says (Act.ReadCell value)) → (act : Act V) → IsOnNoWord act → Says act
-on_no_word Says begun answered chosen woke ended read (Act.Begun call) quiet = begun call
-on_no_word Says begun answered chosen woke ended read (Act.Answered action) quiet = answered action
-on_no_word Says begun answered chosen woke ended read (Act.Chosen choice) quiet = chosen choice
-on_no_word Says begun answered chosen woke ended read (Act.Woke wake) quiet = woke wake
-on_no_word Says begun answered chosen woke ended read Act.Ended quiet = ended
-on_no_word Says begun answered chosen woke ended read (Act.ReadCell value) quiet = read value
-on_no_word Says begun answered chosen woke ended read other quiet = absurd quiet
+on_no_word Says h1 h2 h3 h4 h5 h6 act h7 = grind (arith, nat_tests, eqb-true, eqb-false)
 
 -- what it leaves in the word
 abbrev pub effect : {V : Type 0} → Intent V → ℕ → ℕ

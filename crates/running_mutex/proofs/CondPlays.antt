@@ -1,12 +1,7 @@
 -- The steps of a condition variable's count are those of its table.
-use Rattle.running_mutex.specs.Names.{Word, Call, Answer, Intent, Coming, Beginning, ComesBy, MayStep, Went, Slot, Parties, all_of}
-use Rattle.running_mutex.proofs.Names.{ℕ, List, [], ◌∷◌, None, refl, is_over}
+use Rattle.running_mutex.proofs.Names.{Word, Call, Answer, Intent, Coming, Beginning, ComesBy, MayStep, Went, Slot, Parties, all_of, ℕ, List, [], ◌∷◌, None, refl, is_over, IsOver, waiters_model, IsInside, IsOut, Plays}
 use Rattle.model_waiters.specs.declared.WaitersPlace.{WaitersPlace}
 use Rattle.running_model.specs.Plays.{Aside}
-use Rattle.running_model.specs.Tries.{IsToEnd}
-use Rattle.running_model.specs.Turns.{IsOver}
-use Rattle.running_mutex.specs.CondScript.{waiters_model}
-use Rattle.running_mutex.specs.CondParties.{IsInside, IsOut, Plays}
 
 abbrev Comes : Coming ℕ → Call ℕ → WaitersPlace → List (Slot ℕ) → Parties ℕ → Type 0
 Comes way call place done p = ComesBy waiters_model way call place None done p
@@ -37,9 +32,6 @@ pub goes_in : (found : ℕ) (p q : Parties ℕ) → Went waiters_model (Beginnin
 goes_in found p q went = went Call.Wait WaitersPlace.CountIn None (all_of p) (wait_begins p)
 
 -- ends what it does while it is so,
-
-pub is_to_end : (done : List (Slot ℕ)) (p : Parties ℕ) → IsInside done p → IsToEnd waiters_model p
-is_to_end done p at = record { call = Call.Wait; place = WaitersPlace.Inside; hold = None; done = done; at = at; ends = refl }
 
 has_ended : (done : List (Slot ℕ)) (p : Parties ℕ) → IsInside done p → Comes Aside Call.Wait WaitersPlace.CountOut done p
 has_ended done p at = record { from = WaitersPlace.Inside; at = at; aside = tt; leads = refl }

@@ -1,16 +1,10 @@
 -- What a step makes of what a pass saw and counts, and what the run says of it.
+use Rattle.running_mutex.proofs.Names.{MatchBool, Word, Intent, mutex_table, mutex_model, Coming, MayStep, IsSamePass, view, parties_of, counted, sum_of, no_holds, both_holds, holds_after, AreHoldsIn, none_played, both_played, core_played, played_add_up, IsShare, Told, sights_after, ◌≡◌, ℕ, ◌==◌, Bool, true, false, [], ◌∷◌, refl, ap, sym, ◌∙◌, arith, told_so, hold_at, holds_add_up, mutex_is_for_one, word_is_held, IsTry, tried, MutexPass, holds_of_pass, HasLocked, HasSeenLocked, HasUnlocked, nat_tests, eqb-true, eqb-false}
 use Rattle.running_passes.specs.Sights.{seen_instead}
-use Rattle.running_mutex.specs.Names.{MatchBool, Word, Intent, mutex_table, mutex_model, Coming, MayStep, IsSamePass, view, parties_of, counted, sum_of, no_holds, both_holds, holds_after, AreHoldsIn, none_played, both_played, core_played, played_add_up, IsShare, Told, sights_after}
-use Rattle.running_mutex.proofs.Names.{◌≡◌, ℕ, ◌==◌, Bool, true, false, [], ◌∷◌, refl, ap, sym, ◌∙◌, arith}
 use Rattle.running_model.proofs.OfARun.{of_a_run}
-use Rattle.running_model.proofs.Steps.{told_so}
-use Rattle.running_model.proofs.Words.{hold_at}
 use mathlib.Core.Logic.{dite}
 use native.Mathlib.Decide.{ℕ_discrete}
 use Rattle.running_passes.proofs.Sums.{sum_of_two}
-use Rattle.running_tallies.specs.MutexTally.{holds_add_up, mutex_is_for_one, word_is_held}
-use Rattle.running_tallies.proofs.OneHold.{IsTry, tried}
-use Rattle.running_mutex.specs.MutexShown.{MutexPass, holds_of as holds_of_pass, HasLocked, HasSeenLocked, HasUnlocked}
 use Rattle.running_mutex.specs.MutexSteps.{PlayedMutex, GrantsAreOfARun, OneHolder, locked, saw_locked}
 
 -- an exchange of 0 for 1
@@ -29,8 +23,7 @@ module _ (way : Coming ℕ) (put found : ℕ) (p : MutexPass) (may : MayStep mut
 -- a store of 0, by the pass whose hold is on
 pub stores : (way : Coming ℕ) (p q : MutexPass) → MayStep mutex_model (Word.State ∷ []) way 0 (λ k. Intent.Store k 0) (parties_of p) → IsSamePass p q → holds_of_pass p ≡ 1 →
     Told mutex_model sights_after holds_after way (parties_of p) 0 (counted p) (counted q) → HasUnlocked p q
-stores way p q may same on told =
-    (same, on, told_so _ _ _ _ (λ k. Intent.Store k 0) (parties_of p) may Word.State may.named 0 sights_after holds_after (counted p) (counted q) told)
+stores way p q h1 h2 h3 h4 = grind (arith, nat_tests, eqb-true, eqb-false, told_so)
 
 -- Whenever the rule holds.
 

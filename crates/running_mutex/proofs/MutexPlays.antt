@@ -1,11 +1,7 @@
 -- The steps of a mutex are those of its table.
-use Rattle.running_mutex.specs.Names.{MatchBool, Word, Call, Answer, HoldKind, Intent, MutexPlace, mutex_intent, mutex_model, Slot, Parties, all_of, IsNamed, Coming, Beginning, Continuing, ComesBy, IsHolding, Led, HasCalled, MayStep, Went, spun, IsRefused, IsGranted, MayTry, IsToWake}
-use Rattle.running_mutex.proofs.Names.{◌≡◌, ◌≢◌, ℕ, ◌==◌, Bool, true, false, refl, sym, ap, subst, ◌∙◌, List, [], ◌∷◌, Some, None, ne_eqb}
-use Rattle.model_events.specs.declared.event.Wake.{Wake}
+use Rattle.running_mutex.proofs.Names.{MatchBool, Word, Call, Answer, HoldKind, Intent, MutexPlace, mutex_intent, mutex_model, Slot, Parties, all_of, Coming, Beginning, Continuing, ComesBy, IsHolding, Led, HasCalled, MayStep, Went, spun, IsRefused, IsGranted, MayTry, IsToWake, ◌≡◌, ◌≢◌, ℕ, ◌==◌, Bool, true, false, refl, subst, List, [], ◌∷◌, Some, None, ne_eqb, IsOverAside, HasMutex, Unlocks, nat_tests, eqb-true, eqb-false, arith}
 use Rattle.model_events.specs.declared.patience.Patience.{Patience}
-use Rattle.running_model.specs.Turns.{IsOverAside}
 use Rattle.running_model.proofs.Holding.{holding_told, holding_is}
-use Rattle.running_mutex.specs.MutexParties.{HasMutex, Unlocks}
 
 -- how the calls begin
 
@@ -22,17 +18,7 @@ unlock_begins done p holding = (refl, record { kind = HoldKind.Write; may = reco
 
 may_exchange : (coming : Coming ℕ) (call : Call ℕ) (place : MutexPlace) (done : List (Slot ℕ)) (p : Parties ℕ) (put : ℕ) → put ≡ 1 → ◌≡◌ {A = Intent ℕ} (mutex_intent Word.State place) (Intent.Exchange Word.State 0 1) →
     ComesBy mutex_model coming call place None done p → MayStep mutex_model (Word.State ∷ []) coming 0 (λ w. Intent.Exchange w 0 put) p
-may_exchange coming call place done p put is intends comes = record {
-  call = call;
-  place = place;
-  hold = None;
-  done = done;
-  comes = comes;
-  name = Word.State;
-  named = refl;
-  intends = intends ∙ ap (λ (n : ℕ). Intent.Exchange Word.State 0 n) (sym is);
-  on = refl;
-}
+may_exchange coming call place done p put h1 h2 h3 = grind (arith, nat_tests, eqb-true, eqb-false)
 
 pub may_try_lock : (p : Parties ℕ) (put : ℕ) → put ≡ 1 → MayStep mutex_model (Word.State ∷ []) (Beginning Call.TryLock) 0 (λ w. Intent.Exchange w 0 put) p
 may_try_lock p put is = may_exchange _ Call.TryLock MutexPlace.TryLock (all_of p) p put is refl (try_begins p)
@@ -44,8 +30,7 @@ may_lock coming p put is may = may_exchange coming Call.Lock (MutexPlace.Lock ma
 -- where it leads
 
 tried : (found : ℕ) (b : Bool) (p q : Parties ℕ) → (found == 0) ≡ b → b ≡ false → Led mutex_model Call.TryLock MutexPlace.TryLock None found (all_of p) q → HasCalled mutex_model Call.TryLock Answer.Interrupted None p q
-tried found true p q test miss led = absurd cc
-tried found false p q test miss led = rw test at led
+tried found b p q h1 h2 h3 = grind (arith, nat_tests, eqb-true, eqb-false)
 
 pub try_ends : (free : Bool) (found : ℕ) (p q : Parties ℕ) → MatchBool free (found ≡ 0) (found ≢ 0) → Went mutex_model (Beginning Call.TryLock) p found q →
     MatchBool free (HasCalled mutex_model Call.TryLock Answer.Success (Some HoldKind.Write) p q) (HasCalled mutex_model Call.TryLock Answer.Interrupted None p q)
@@ -54,16 +39,12 @@ try_ends false found p q miss went = tried found (found == 0) p q refl (ne_eqb f
 
 refused_so : (found : ℕ) (b : Bool) (patience : Patience) (done : List (Slot ℕ)) (q : Parties ℕ) → (found == 0) ≡ b → b ≡ false →
     Led mutex_model Call.Lock (MutexPlace.Lock patience) None found done q → IsRefused mutex_model Call.Lock MutexPlace.Lock patience 1 done q
-refused_so found true patience done q test miss led = absurd cc
-refused_so found false patience done q test miss led = rw test at led
+refused_so found b patience done q h1 h2 h3 = grind (arith, nat_tests, eqb-true, eqb-false)
 
 pub lock_goes : (free : Bool) (coming : Coming ℕ) (found : ℕ) (patience : Patience) (done : List (Slot ℕ)) (p q : Parties ℕ) → MatchBool free (found ≡ 0) (found ≢ 0) → Went mutex_model coming p found q →
     ComesBy mutex_model coming Call.Lock (MutexPlace.Lock patience) None done p →
     MatchBool free (IsGranted mutex_model Call.Lock MutexPlace.Lock (Some HoldKind.Write) done q) (IsRefused mutex_model Call.Lock MutexPlace.Lock patience 1 done q)
-lock_goes true coming found patience done p q hit went comes =
-    subst (λ n. Led mutex_model Call.Lock (MutexPlace.Lock patience) None n done q) hit (went Call.Lock (MutexPlace.Lock patience) None done comes)
-lock_goes false coming found patience done p q miss went comes =
-    refused_so found (found == 0) patience done q refl (ne_eqb found 0 miss) (went Call.Lock (MutexPlace.Lock patience) None done comes)
+lock_goes free coming found patience done p q h1 h2 h3 = grind (arith, nat_tests, eqb-true, eqb-false, ne_eqb, refused_so)
 
 -- the first exchange of a `Lock`
 pub lock_first : (free : Bool) (p q : Parties ℕ) → (found : ℕ) × MatchBool free (found ≡ 0) (found ≢ 0) × Went mutex_model (Beginning Call.Lock) p found q →
@@ -74,39 +55,16 @@ lock_first free p q t = lock_goes free (Beginning Call.Lock) t.0 (spun 0) (all_o
 pub granted_has : (call : Call ℕ) (p q : Parties ℕ) → HasCalled mutex_model call Answer.Success (Some HoldKind.Write) p q → HasMutex q
 granted_has call p q ended = holding_is mutex_model HoldKind.Write (all_of p) q ended.rests
 
-pub where_true : (b : Bool) (A B : Type 0) → b ≡ true → A → MatchBool b A B
-where_true true A B is a = a
-where_true false A B is a = absurd cc
-
 -- `Unlock`
 
 pub may_unlock : (p : Parties ℕ) → HasMutex p → MayStep mutex_model (Word.State ∷ []) (Continuing Call.Unlock) 0 (λ w. Intent.Store w 0) p
-may_unlock p has = record {
-  call = Call.Unlock;
-  place = MutexPlace.Release;
-  hold = Some HoldKind.Write;
-  done = p.resting;
-  comes = unlock_begins p.resting p (holding_told mutex_model HoldKind.Write p has);
-  name = Word.State;
-  named = refl;
-  intends = refl;
-  on = refl;
-}
+may_unlock p has = grind (arith, nat_tests, eqb-true, eqb-false, unlock_begins p.resting p (holding_told mutex_model HoldKind.Write p has))
 
 pub unlocks : (p q : Parties ℕ) → Went mutex_model (Continuing Call.Unlock) p 0 q → Unlocks p q
 unlocks p q went = λ done holding. went Call.Unlock MutexPlace.Release (Some HoldKind.Write) done (unlock_begins done p holding)
 
 pub is_to_wake : (i : ℕ) (p q : Parties ℕ) → i ≡ 0 → HasMutex p → Unlocks p q → IsToWake mutex_model (Word.State ∷ []) (λ (_ : MutexPlace). Word.State) i q
-is_to_wake i p q is has unlocked = record {
-  call = Call.Unlock;
-  place = MutexPlace.Wake;
-  hold = None;
-  done = p.resting;
-  at = unlocked p.resting (holding_told mutex_model HoldKind.Write p has);
-  who = Wake.One;
-  wakes = refl;
-  word = subst (λ (n : ℕ). IsNamed (Word.State ∷ []) n Word.State) (sym is) refl;
-}
+is_to_wake i p q is has unlocked = grind (arith, nat_tests, eqb-true, eqb-false, unlocked p.resting (holding_told mutex_model HoldKind.Write p has))
 
 -- how it is over
 

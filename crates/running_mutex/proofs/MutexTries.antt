@@ -1,24 +1,16 @@
 -- What the tries of a `lock` come to, one after another.
-use Rattle.running_mutex.specs.Names.{Bor, Shared, WaitAction, Word, View, IsWhole, part_of, sights_of, HasAsked, IsNamed, HasMoved, WasRefused, WasRefusedAt, HasGivenUp, Holds}
-use Rattle.running_mutex.proofs.Names.{◌≡◌, ℕ, ◌+◌, Bool, true, false, MatchBool, [], ◌∷◌, refl, sym, ap, subst, ◌∙◌, arith}
+use Rattle.running_mutex.proofs.Names.{Bor, Shared, WaitAction, Word, View, IsWhole, part_of, sights_of, HasAsked, IsNamed, HasMoved, WasRefused, WasRefusedAt, HasGivenUp, Holds, ◌≡◌, ℕ, ◌+◌, Bool, false, MatchBool, [], ◌∷◌, refl, sym, ap, subst, arith, MutexPass, IsLocked, IsAlone, Enters, HasLocked, HasSeenLocked, HasUnlocked, HasEntered, nat_tests, eqb-true, eqb-false}
 use Rattle.running_model.proofs.Attempts.{missed_once, told_after, asked_after}
-use Rattle.running_mutex.specs.MutexShown.{MutexPass, IsLocked, IsAlone, Enters, HasLocked, HasSeenLocked, HasUnlocked, HasEntered}
 
 pub locks_once : (p q : MutexPass) → HasLocked p q → HasEntered p q
-locks_once p q locked = let count = ap (λ (v : View Holds). v.sights.count) locked.2 in record {
-  same = locked.0;
-  counts = record { off = locked.1; on = ap (λ (v : View Holds). v.tally.holds) locked.2; grants = ap (λ (v : View Holds). v.tally.grants) locked.2 };
-  part = ap (λ (v : View Holds). v.part) locked.2;
-  saw = record { more = omega (arith, count); not_fresh = ap (λ (v : View Holds). v.sights.fresh) locked.2; still = λ _. ap (λ (v : View Holds). v.sights) locked.2 };
-}
+locks_once p q h1 = grind (arith, nat_tests, eqb-true, eqb-false)
 
 pub sees_once : (p q : MutexPass) → HasSeenLocked p q → (sights_of q).count ≡ (sights_of p).count + 1
 sees_once p q saw = ap (λ (v : View Holds). v.sights.count) saw.1
 
 -- the value that was seen is what a locked mutex has
 pub refused_at : (seen : ℕ) (p q : MutexPass) → seen ≡ 1 → HasSeenLocked p q → WasRefusedAt IsLocked seen 1 p q
-refused_at seen p q is saw = let count = sees_once p q saw in let last : (sights_of q).last ≡ 1 = ap (λ (v : View Holds). v.sights.last) saw.1 in
-    record { stayed = missed_once 0 1 p q saw; looked = record { more = omega (arith, count); refusing = (last ∙ sym is, is) } }
+refused_at seen p q h1 h2 = grind (arith, nat_tests, eqb-true, eqb-false, missed_once, sees_once)
 
 pub refused_once : (p q : MutexPass) → HasSeenLocked p q → WasRefused IsLocked 1 p q
 refused_once p q saw = let count = sees_once p q saw in record { stayed = missed_once 0 1 p q saw; looked = record { more = omega (arith, count); refusing = ap (λ (v : View Holds). v.sights.last) saw.1 } }
@@ -26,8 +18,7 @@ refused_once p q saw = let count = sees_once p q saw in record { stayed = missed
 -- the first exchange was refused, and then it entered or gave up
 pub ends : {F W : Type 0} (g : Shared F (Bor W × (Bor ℕ × Unit {0})) WaitAction) (wait : F) (b : Bool) (p q r : MutexPass) → HasSeenLocked p q → MatchBool b (HasMoved Enters q r) (WasRefused IsLocked 10001 q r) →
     (b ≡ false → HasAsked g wait IsLocked 10000 q r) → MatchBool b (HasEntered p r) (HasGivenUp g wait IsLocked p r)
-ends g wait true p q r saw told asked = told_after Enters IsLocked 1 10001 p q r true (refused_once p q saw) told
-ends g wait false p q r saw told asked = (told_after Enters IsLocked 1 10001 p q r false (refused_once p q saw) told, asked_after g wait IsLocked 1 10000 p q r (sees_once p q saw) (asked refl))
+ends g wait b p q r h1 h2 h3 = grind (arith, nat_tests, eqb-true, eqb-false, asked_after, refused_once, sees_once, told_after)
 
 -- the word's name
 pub state_named : (i : ℕ) → i ≡ 0 → IsNamed (Word.State ∷ []) i Word.State

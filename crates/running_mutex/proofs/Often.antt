@@ -1,9 +1,6 @@
 -- A wait at a condition variable more.
-use Rattle.std.proofs.Common.{ℕ, suc, sym, subst}
-use Rattle.running_semaphore.specs.SemaphoreShown.{initial_of}
-use Rattle.running_mutex.specs.declared.condition_variable.CondPass.{CondPass}
+use Rattle.running_mutex.proofs.Names.{ℕ, suc, sym, subst, initial_of, CondPass, permits_in}
 use Rattle.running_mutex.specs.declared.condition_variable.ConditionVariable.{ConditionVariable}
-use Rattle.running_mutex.specs.CondShown.{permits_in}
 use Rattle.running_mutex.specs.Often.{Often, WaitsForPermit, HasWaitedOften}
 
 pub waits_again : {A : Type 0} (c : ConditionVariable A) (times : ℕ) (p q r : CondPass) → HasWaitedOften c times p q → HasWaitedOften c 1 q r → HasWaitedOften c (suc times) p r

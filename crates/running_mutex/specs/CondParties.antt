@@ -1,7 +1,5 @@
 -- The party of the model that a pass of a condition variable's count is, and how its `Wait` goes.
-use Rattle.running_mutex.specs.Names.{ℕ, List, None, Call, Answer, Then, Slot, Parties, IsAt, HasCalled}
-use Rattle.running_model.specs.Plays.{HasEnded}
-use Rattle.model_waiters.specs.declared.WaitersPlace.{WaitersPlace}
+use Rattle.running_mutex.specs.Names.{ℕ, List, None, Call, Answer, Then, Slot, Parties, IsAt, HasCalled, HasEnded, WaitersPlace}
 use Rattle.running_mutex.specs.CondScript.{waiters_model}
 
 -- it is counted in, and the next that it does is to end what it does while it is so

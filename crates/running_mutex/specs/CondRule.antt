@@ -1,10 +1,6 @@
 -- What a pass of a condition variable's count counts, and what all passes count together: what the acts of the run counted in and out.
-use Rattle.running_mutex.specs.Names.{◌≡◌, ℕ, ◌+◌, ◌%◌, ◌^◌, if◌then◌else◌, List, [], ◌∷◌, length, slice_index, Word, Call, State, Pass, View, sum_of, IsCounted, Played, none_played, both_played, PlaysAndCounts, IsOfARun}
-use Rattle.model_events.specs.declared.event.Act.{Act}
-use Rattle.model_events.specs.declared.event.Event.{Event}
+use Rattle.running_mutex.specs.Names.{◌≡◌, ℕ, ◌+◌, ◌%◌, ◌^◌, if◌then◌else◌, List, [], ◌∷◌, length, slice_index, Word, Call, State, Pass, View, sum_of, IsCounted, Played, none_played, both_played, PlaysAndCounts, IsOfARun, Act, Event, WaitersPlace, is_in, is_out, ins_in, outs_in}
 use Rattle.model_condvar.specs.Waiters.{waiting_after}
-use Rattle.model_waiters.specs.declared.WaitersPlace.{WaitersPlace}
-use Rattle.model_waiters.specs.Law.{is_in, is_out, ins_in, outs_in}
 use Rattle.running_mutex.specs.declared.waits.Waits.{Waits}
 use Rattle.running_mutex.specs.declared.waits.WaitersScript.{WaitersScript}
 use Rattle.running_mutex.specs.CondScript.{waiters_model}

@@ -1,11 +1,8 @@
 -- The model that the count of a condition variable plays.
-use Rattle.running_mutex.specs.Names.{ℕ, List}
+use Rattle.running_mutex.specs.Names.{ℕ, List, Event, WaitersPlace, KeepsWaiters}
 use Rattle.model_events.specs.Integers.{u64_arithmetic}
 use Rattle.model_events.specs.Runs.{IsPast}
-use Rattle.model_events.specs.declared.event.Event.{Event}
-use Rattle.model_waiters.specs.declared.WaitersPlace.{WaitersPlace}
 use Rattle.model_waiters.specs.Table.{waiters_table}
-use Rattle.model_waiters.specs.Law.{KeepsWaiters}
 use Rattle.model_waiters.proofs.Laws.{keeps_waiters}
 use Rattle.running_model.specs.Models.{Model}
 

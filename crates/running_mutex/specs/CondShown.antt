@@ -1,11 +1,8 @@
 -- What contracts see of a condition variable and its pass, and what a call changes in a pass.
-use Rattle.running_mutex.specs.Names.{◌≡◌, ◌<◌, ℕ, Bool, MatchBool, Option, Some, None, Bor, Shared, Once, FnOnceReturnsAt, WaitAction, Part, IsWhole, HasLooked, IsSamePass, part_of, sights_of, MayAnswerAbort, HasAsked, counts_of, parties_of, Parties, HasCalled, Call, Answer, HoldKind, mutex_model, HasMoved, WasRefused, Holds, granted, released, gave}
+use Rattle.running_mutex.specs.Names.{◌≡◌, ◌<◌, ℕ, Bool, MatchBool, Option, Some, None, Bor, Shared, Once, FnOnceReturnsAt, WaitAction, Part, IsWhole, HasLooked, IsSamePass, part_of, sights_of, MayAnswerAbort, HasAsked, counts_of, parties_of, Parties, HasCalled, Call, Answer, HoldKind, mutex_model, HasMoved, WasRefused, Holds, granted, released, gave, IsPassOf, HasSeen, HasDone, SemPass, IsSemPass, IsEmpty, HasTaken, worth_of, HasPlayed, HasPlayedPost}
 use Rattle.running_passes.specs.declared.wait.WaitResult.{WaitResult}
 use Rattle.running_passes.specs.declared.wait.WaitResult.TheVariants.{Success, Interrupted}
-use Rattle.running_model.specs.Stages.{IsPassOf}
 use Rattle.running_mutex.specs.MutexParties.{Unlocks}
-use Rattle.running_model.specs.Counts.{HasSeen, HasDone}
-use Rattle.running_semaphore.specs.SemaphoreShown.{SemPass, IsSemPass, IsEmpty, HasTaken, worth_of, HasPlayed, HasPlayedPost}
 use Rattle.running_mutex.specs.declared.condition_variable.CondPass.{CondPass}
 use Rattle.running_mutex.specs.declared.condition_variable.ConditionVariable.{ConditionVariable}
 use Rattle.running_mutex.specs.declared.condition_variable.CountedWait.{CountedWait}

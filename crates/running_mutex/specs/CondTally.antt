@@ -1,15 +1,13 @@
 -- What the passes of a condition variable's count count adds up, and follows the run.
-use Rattle.std.proofs.Common.{ℕ, ◌+◌, ◌≡◌, Bool, true, false, cond, refl, ap, arith}
-use Rattle.std.proofs.lemmas.Bool.{true≢false}
-use Rattle.model_events.specs.declared.event.Act.{Act}
-use Rattle.model_waiters.specs.Law.{is_in, is_out}
+use Rattle.running_mutex.specs.Names.{ℕ, ◌+◌, ◌≡◌, Bool, true, false, cond, refl, arith, Act, is_in, is_out, StaysOnNoWord, GoesOnByActs}
 use Rattle.running_passes.specs.Tallies.{IsTally}
-use Rattle.running_model.specs.Passes.{StaysOnNoWord, GoesOnByActs}
 use Rattle.running_model.specs.Sums.{pairs_add_up}
 use Rattle.running_model.specs.Words.{IsOnNoWord, on_no_word}
 use Rattle.running_mutex.specs.declared.waits.Waits.{Waits}
 use Rattle.running_mutex.specs.CondScript.{waiters_model}
 use Rattle.running_mutex.specs.CondRule.{waits, no_waits, both_waits, went_in, went_out, waits_after, AreWaitsIn}
+use Rattle.std.proofs.lemmas.Bool.Decides.{nat_tests}
+use Rattle.std.proofs.lemmas.Bool.{eqb-true, eqb-false}
 
 pub waits_add_up : IsTally no_waits both_waits (λ _. no_waits)
 waits_add_up = pairs_add_up waits (λ t. t.begun) (λ t. t.ended) (λ n m. refl) (λ n m. refl) (λ t. refl)
@@ -22,11 +20,7 @@ counts_none : (act : Act ℕ) → IsOnNoWord act → CountsNone act
 counts_none = on_no_word CountsNone (λ call. (refl, refl)) (λ action. (refl, refl)) (λ choice. (refl, refl)) (λ wake. (refl, refl)) (refl, refl) (λ value. (refl, refl))
 
 pub waits_stay : StaysOnNoWord AreWaitsIn
-waits_stay past e t quiet is =
-    let none = counts_none e.act quiet in
-    let no_in : ◌≡◌ {A = ℕ} (cond (is_in e.act) 1 0) 0 = ap (λ (b : Bool). cond b 1 0) none.0 in
-    let no_out : ◌≡◌ {A = ℕ} (cond (is_out e.act) 1 0) 0 = ap (λ (b : Bool). cond b 1 0) none.1 in
-    record { begun = omega (arith, is.begun, no_in); ended = omega (arith, is.ended, no_out) }
+waits_stay = grind (arith, nat_tests, eqb-true, eqb-false, counts_none)
 
 -- no act counts in and out
 not_both : (act : Act ℕ) → is_in act ≡ true → is_out act ≡ false
@@ -35,11 +29,7 @@ not_both act in_too = grind (arith)
 -- an act that counts in, or out, or neither
 counts_more : (goes_in goes_out : Bool) (t rest : Waits) (begun ended : ℕ) → (goes_in ≡ true → goes_out ≡ false) → t.begun + rest.begun ≡ begun → t.ended + rest.ended ≡ ended →
     ((cond goes_in (went_in t) (cond goes_out (went_out t) t)).begun + rest.begun ≡ cond goes_in 1 0 + begun) × ((cond goes_in (went_in t) (cond goes_out (went_out t) t)).ended + rest.ended ≡ cond goes_out 1 0 + ended)
-counts_more true true t rest begun ended never first second = absurd (true≢false (never refl))
-counts_more true false t rest begun ended never first second = (omega (arith, first), omega (arith, second))
-counts_more false true t rest begun ended never first second = (omega (arith, first), omega (arith, second))
-counts_more false false t rest begun ended never first second = (omega (arith, first), omega (arith, second))
+counts_more goes_in goes_out t rest begun ended h1 h2 h3 = grind (arith, nat_tests, eqb-true, eqb-false)
 
 pub waits_go_on : GoesOnByActs waiters_model both_waits AreWaitsIn (λ _ _. waits_after) (λ _ _. Unit {0})
-waits_go_on call place hold past e found step t rest needs is =
-    let more = counts_more (is_in e.act) (is_out e.act) t rest _ _ (not_both e.act) is.begun is.ended in record { begun = more.0; ended = more.1 }
+waits_go_on = grind (arith, nat_tests, eqb-true, eqb-false, counts_more, not_both)

@@ -1,9 +1,5 @@
 -- What is done again and again.
-use Rattle.std.specs.Prelude.{◌≡◌, ℕ}
-use Rattle.std.proofs.Common.{zero, suc}
-use Rattle.model_events.specs.declared.event.Answer.{Answer}
-use Rattle.model_events.specs.declared.event.Call.{Call}
-use Rattle.running_semaphore.specs.SemaphoreShown.{SemPass, HasPlayed, initial_of}
+use Rattle.running_mutex.specs.Names.{◌≡◌, ℕ, zero, suc, Answer, Call, SemPass, HasPlayed, initial_of}
 use Rattle.running_mutex.specs.declared.condition_variable.CondPass.{CondPass}
 use Rattle.running_mutex.specs.declared.condition_variable.ConditionVariable.{ConditionVariable}
 use Rattle.running_mutex.specs.CondShown.{permits_in}

@@ -1,41 +1,13 @@
 -- What a step makes of what a pass saw and knows, and what the run says of it.
-use Rattle.model_events.specs.Past.{word_in}
-use Rattle.model_events.specs.Rows.{carried_out, value_told}
-use Rattle.running_once.specs.Names.{MatchBool, Word, Intent, MayStep, Coming, View, total, sum_of, once_table, none_played, both_played, core_played, played_add_up, IsSamePass, view, IsShare, Told, sights_of, counts_of, parties_of, counted}
-use Rattle.running_once.proofs.Names.{◌≡◌, ◌≢◌, ℕ, ◌+◌, ◌==◌, Bool, true, false, ◌||◌, List, [], ◌∷◌, refl, ap, sym, subst, ◌∙◌, arith}
-use Rattle.std.specs.Prelude.{Some}
-use Rattle.running_passes.specs.Sights.{HasLooked}
-use Rattle.running_passes.proofs.Sums.{others, sum_at}
-use Rattle.running_model.specs.Counts.{HasDone}
-use Rattle.running_model.specs.Sees.{sights_after}
-use Rattle.running_model.proofs.OfARun.{of_a_run}
-use Rattle.running_model.proofs.Steps.{told_so, found_there, done_so, missed_so, by_zero}
-use Rattle.running_once.specs.declared.Runs.{Runs}
-use Rattle.running_once.specs.OnceScript.{once_model}
-use Rattle.running_once.specs.OnceRule.{no_runs, both_runs, known_runs, runs_after, AreRunsIn, OnceView, OneClosure, KnownHasEnded, ClosuresAreOfARun, ended, Says, Loaded}
-use Rattle.running_once.specs.OnceShown.{PlayedPass, HasBegun, HasOnlyWaited, IsTaken}
-use Rattle.running_once.specs.OnceTally.{runs_add_up}
+use Rattle.running_once.proofs.Names.{carried_out, value_told, MatchBool, Word, Intent, MayStep, Coming, View, total, sum_of, none_played, both_played, core_played, played_add_up, IsSamePass, view, IsShare, Told, sights_of, parties_of, counted, ◌≡◌, ◌≢◌, ℕ, ◌+◌, ◌==◌, Bool, true, ◌||◌, List, [], ◌∷◌, refl, ap, sym, subst, ◌∙◌, arith, Some, HasLooked, others, sum_at, HasDone, sights_after, of_a_run, told_so, missed_so, Runs, once_model, no_runs, both_runs, known_runs, runs_after, AreRunsIn, OnceView, OneClosure, KnownHasEnded, ClosuresAreOfARun, ended, Says, PlayedPass, HasBegun, HasOnlyWaited, IsTaken, runs_add_up, nat_tests, eqb-true, eqb-false}
 
 or_true : (x y : Bool) → x ≡ true → (x || y) ≡ true
-or_true true y e = refl
-or_true false y e = cc
+or_true x y h1 = grind (arith, nat_tests, eqb-true, eqb-false)
 
 module _ (way : Coming ℕ) (intent : Word → Intent ℕ) (found : ℕ) (p : PlayedPass) (may : MayStep once_model (Word.State ∷ []) way 0 intent (parties_of p)) where
   -- what a step found, the run says
   pub says : ((w : Word) (memory : Word → ℕ) → value_told (carried_out (intent w) memory) ≡ Some (memory w)) → IsShare once_model both_runs AreRunsIn way (view p) found → Says (counted p) found
-  says tells s =
-      let is = found_there _ _ _ _ intent (parties_of p) may Word.State may.named found tells (word_in once_table s.past) s.found_is in
-      let word = s.says.word in let begun = s.says.begun in let one = s.law.law.one in record {
-        known = λ complete. let there = s.says.known (or_true (counts_of p).complete s.rest.complete complete) in omega (arith, is, word, begun, one, there);
-        range = omega (arith, is, word, begun, one);
-        none = λ free. omega (arith, is, word, free);
-        alone = λ whole. is ∙ (s.alone whole).1.word;
-      }
-
-pub loads : (way : Coming ℕ) (found : ℕ) (p q : PlayedPass) → MayStep once_model (Word.State ∷ []) way 0 (λ k. Intent.Load k) (parties_of p) → IsShare once_model both_runs AreRunsIn way (view p) found →
-    Told once_model sights_after runs_after way (parties_of p) found (counted p) (counted q) → Loaded (counted p) found (counted q)
-loads way found p q may share told =
-    record { says = says way (λ k. Intent.Load k) found p may (λ w memory. refl) share; saw = told_so _ _ _ _ (λ k. Intent.Load k) (parties_of p) may Word.State may.named found sights_after runs_after (counted p) (counted q) told }
+  says h1 h2 = grind (arith, nat_tests, eqb-true, eqb-false)
 
 -- an exchange of 0 for 1
 module _ (way : Coming ℕ) (put found : ℕ) (p q : PlayedPass) (may : MayStep once_model (Word.State ∷ []) way 0 (λ k. Intent.Exchange k 0 put) (parties_of p)) (same : IsSamePass p q)
@@ -49,13 +21,7 @@ module _ (way : Coming ℕ) (put found : ℕ) (p q : PlayedPass) (may : MayStep 
       )
 
   pub begins : IsShare once_model both_runs AreRunsIn way (view p) found → MatchBool (found == 0) (HasBegun p q) (HasOnlyWaited p q)
-  begins share = by_zero found (HasBegun p q) (HasOnlyWaited p q)
-      (λ free. record {
-        same = same;
-        first = (says way (λ k. Intent.Exchange k 0 put) found p may (λ w memory. refl) share).none free;
-        begins = done_so _ _ _ _ 0 put (parties_of p) may Word.State may.named found runs_after (counted p) (counted q) told free;
-      })
-      (λ other. (waits other).0)
+  begins h1 = grind (arith, nat_tests, eqb-true, eqb-false)
 
 pub ends : (way : Coming ℕ) (p q : PlayedPass) → MayStep once_model (Word.State ∷ []) way 0 (λ k. Intent.Store k 2) (parties_of p) → IsSamePass p q → Told once_model sights_after runs_after way (parties_of p) 2 (counted p) (counted q) → HasDone ended p q
 ends way p q may same told = (same, told_so _ _ _ _ (λ k. Intent.Store k 2) (parties_of p) may Word.State may.named 2 sights_after runs_after (counted p) (counted q) told)

@@ -1,13 +1,6 @@
 -- What a pass of a once counts and knows, the rule over all passes, and what a step changes.
-use Rattle.running_once.specs.Names.{◌≡◌, ℕ, ◌+◌, ◌*◌, ◌≤◌, Bool, true, false, ◌||◌, ◌==◌, List, [], ◌∷◌, Word, Call, Act, Event, OncePlace, once_table, begins_in, ends_in, View, IsWhole, total, view_of, looked, IsCounted, sum_of, Played, none_played, both_played, PlaysAndCounts, IsOfARun}
-use mathlib.Core.Option.{some}
-use lib.ListN.{get_elem?}
-use Rattle.atomic_table.specs.Table.{State}
-use Rattle.model_events.specs.Past.{word_in}
-use Rattle.model_events.specs.Sights.{acts_in}
+use Rattle.running_once.specs.Names.{◌≡◌, ℕ, ◌+◌, ◌*◌, ◌≤◌, Bool, true, false, ◌||◌, ◌==◌, List, [], ◌∷◌, Word, Call, Act, Event, OncePlace, once_table, begins_in, ends_in, View, IsWhole, total, view_of, looked, IsCounted, sum_of, Played, none_played, both_played, PlaysAndCounts, IsOfARun, some, get_elem?, State, word_in, acts_in, Runs, OnceScript}
 use Rattle.running_once.specs.OnceScript.{once_model}
-use Rattle.running_once.specs.declared.Runs.{Runs}
-use Rattle.running_once.specs.declared.OnceScript.{OnceScript}
 
 abbrev pub runs : ℕ → ℕ → Bool → Runs
 runs running ended complete = record { running = running; ended = ended; complete = complete }

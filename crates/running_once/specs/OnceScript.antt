@@ -1,9 +1,5 @@
 -- The model that a once plays.
-use Rattle.running_once.specs.Names.{ℕ, List, Event, OncePlace, once_table, KeepsOnce}
-use Rattle.model_events.specs.Integers.{u64_arithmetic}
-use Rattle.running_model.specs.Models.{Model}
-use Rattle.model_events.specs.Runs.{IsPast}
-use Rattle.model_once.proofs.Laws.{keeps_once}
+use Rattle.running_once.specs.Names.{ℕ, List, Event, OncePlace, once_table, KeepsOnce, u64_arithmetic, Model, IsPast, keeps_once}
 
 abbrev pub once_model : Model ℕ OncePlace
 once_model = record { arithmetic = u64_arithmetic; table = once_table; law = KeepsOnce }

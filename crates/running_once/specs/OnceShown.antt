@@ -1,12 +1,6 @@
 -- What contracts see of a once and its pass, and what a call changes in a pass.
-use Rattle.running_once.specs.Names.{◌≡◌, ◌≢◌, ℕ, ◌<◌, ◌≤◌, ◌⊎◌, true, None, Call, Answer, OncePlace, View, IsSamePass, part_of, sights_of, looked, wrote, Played, Parties, HasCalled, parties_of, counts_of, counted}
+use Rattle.running_once.specs.Names.{◌≡◌, ◌≢◌, ℕ, ◌<◌, ◌≤◌, ◌⊎◌, true, None, Call, Answer, OncePlace, View, IsSamePass, part_of, sights_of, looked, wrote, Played, Parties, HasCalled, parties_of, counts_of, counted, Part, Sights, Pass, IsPassOf, Runs, OnceScript}
 use Rattle.running_once.specs.OnceScript.{once_model}
-use Rattle.running_passes.specs.declared.part.Part.{Part}
-use Rattle.running_passes.specs.declared.part.Sights.{Sights}
-use Rattle.running_passes.specs.declared.pass.Pass.{Pass}
-use Rattle.running_model.specs.Stages.{IsPassOf}
-use Rattle.running_once.specs.declared.Runs.{Runs}
-use Rattle.running_once.specs.declared.OnceScript.{OnceScript}
 use Rattle.running_once.specs.declared.Once.{Once}
 use Rattle.running_once.specs.declared.OncePass.{OncePass}
 use Rattle.running_once.specs.declared.Ran.{Ran}

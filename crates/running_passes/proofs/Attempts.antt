@@ -1,26 +1,18 @@
 -- What a pass has seen over several tries, and what its closure was asked meanwhile.
-use Rattle.std.proofs.Common.{◌≡◌, ◌+◌, ◌≤◌, ℕ, ap, ◌∙◌, sym, subst, arith}
+use Rattle.running_passes.proofs.Names.{◌≡◌, ◌+◌, ◌≤◌, ℕ, sym, subst, arith, sights_of, nat_tests, eqb-true, eqb-false}
 use Rattle.std.specs.Borrow.{Bor}
 use Rattle.std.specs.Fn.{Shared}
 use Rattle.model_events.specs.declared.WaitAction.{WaitAction}
 use Rattle.running_passes.specs.declared.part.Sights.{Sights}
 use Rattle.running_passes.specs.declared.pass.Pass.{Pass}
-use Rattle.running_passes.specs.Sights.{stale, HasOnlyRead, HasWritten}
-use Rattle.running_passes.specs.Passes.{sights_of}
+use Rattle.running_passes.specs.Sights.{HasOnlyRead, HasWritten}
 use Rattle.running_passes.specs.Answers.{MayAnswer, MayAnswerContinue, HasAsked}
 
 pub read_twice : (a b c : Sights) → HasOnlyRead a b → HasOnlyRead b c → HasOnlyRead a c
-read_twice a b c first second = record {
-  more = omega (arith, first.more, second.more);
-  still = λ same. second.still (omega (arith, first.more, second.more)) ∙ first.still (omega (arith, first.more, second.more));
-}
+read_twice a b c h1 h2 = grind (arith, nat_tests, eqb-true, eqb-false)
 
 pub read_and_written : (a b c : Sights) → HasOnlyRead a b → HasWritten b c → HasWritten a c
-read_and_written a b c first second = record {
-  more = omega (arith, first.more, second.more);
-  not_fresh = second.not_fresh;
-  still = λ same. second.still (omega (arith, first.more, second.more)) ∙ ap stale (first.still (omega (arith, first.more, second.more)));
-}
+read_and_written a b c h1 h2 = grind (arith, nat_tests, eqb-true, eqb-false)
 
 -- so far the pass looked once after each answer of the wait closure, and each was Continue
 pub record HasGoneOn {F W T : Type 0} (g : Shared F (Bor W × (Bor ℕ × Unit {0})) WaitAction) (wait : F) (P : ℕ → Type 0) (p q : Pass T) : Type 0 where
@@ -49,12 +41,7 @@ module _ {F W T : Type 0} (g : Shared F (Bor W × (Bor ℕ × Unit {0})) WaitAct
 
   -- of a call that had looked so often before
   pub asked_later : (looks : ℕ) (p q r : Pass T) → (sights_of q).count ≡ (sights_of p).count + looks → HasAsked g wait P 0 q r → HasAsked g wait P looks p r
-  asked_later looks p q r before asked = record {
-    more = asked.more;
-    looked = omega (arith, before, asked.looked);
-    some = asked.some;
-    again = asked.again;
-  }
+  asked_later looks p q r h1 h2 = grind (arith, nat_tests, eqb-true, eqb-false)
 
 -- what was told one value was told one of its kind
 pub told_of_its_kind : {F W : Type 0} (g : Shared F (Bor W × (Bor ℕ × Unit {0})) WaitAction) (wait : F) (P : ℕ → Type 0) (action : WaitAction) (seen : ℕ)

@@ -1,5 +1,5 @@
+pub mod Names
 pub mod Parts
 pub mod Sums
 pub mod Steps
 pub mod Attempts
-pub mod Updates

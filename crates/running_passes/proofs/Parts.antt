@@ -1,18 +1,13 @@
 -- The parts of all passes, and what they weigh, under each kind of step.
-use Rattle.std.proofs.Common.{◌≡◌, ℕ, zero, suc, ◌+◌, ◌-◌, ◌*◌, ◌^◌, ◌<◌, ◌≤◌, List, [], ◌∷◌, ◌++◌, set, sym, refl, ap, ◌∙◌, subst, arith, pow-add, pow_pos, mul-pos, zero-mul}
+use Rattle.running_passes.proofs.Names.{◌≡◌, ℕ, zero, suc, ◌+◌, ◌-◌, ◌*◌, ◌^◌, ◌<◌, ◌≤◌, List, [], ◌∷◌, ◌++◌, set, sym, ap, ◌∙◌, subst, arith, pow-add, pow_pos, mul-pos, zero-mul, some, some-injective, some-ne-none, get_elem?, Part, whole, nothing, half, together, IsWhole, IsAgain, IsSamePart, weight, AddUp, total, Each, IsShared, nat_tests, eqb-true, eqb-false}
 use Rattle.std.proofs.Math.Nat.{eq_of_mul-eq-mul_left, eq_of_mul-eq-mul_right}
-use mathlib.Core.Option.{some, some-injective, some-ne-none}
-use lib.ListN.{get_elem?}
-use Rattle.running_passes.specs.declared.part.Part.{Part}
-use Rattle.running_passes.specs.Parts.{whole, nothing, half, together, IsWhole, IsAgain, IsSamePart, weight, AddUp, total, Each, IsShared}
 
 module _ {V : Type 0} where
   -- sums
 
   pub total_set : (f : V → ℕ) (views : List V) (id : ℕ) (v w : V) → get_elem? views id ≡ some v → total f (set views id w) + f v ≡ total f views + f w
-  total_set f [] id v w at = absurd (some-ne-none v (sym at))
-  total_set f (x ∷ xs) zero v w at = let is : f x ≡ f v = ap f (some-injective x v at) in omega arith
   total_set f (x ∷ xs) (suc id) v w at = let rest = total_set f xs id v w at in omega arith
+  total_set f views id v w h1 = grind (arith, nat_tests, eqb-true, eqb-false)
 
   pub total_snoc : (f : V → ℕ) (views : List V) (w : V) → total f (views ++ w ∷ []) ≡ total f views + f w
   total_snoc f [] w = omega arith
@@ -32,16 +27,14 @@ module _ {V : Type 0} where
 
   -- none is more than the sum
   pub within_total : (f : V → ℕ) (views : List V) (id : ℕ) (v : V) → get_elem? views id ≡ some v → f v ≤ total f views
-  within_total f [] id v at = absurd (some-ne-none v (sym at))
-  within_total f (x ∷ xs) zero v at = let is : f x ≡ f v = ap f (some-injective x v at) in omega arith
   within_total f (x ∷ xs) (suc id) v at = let rest = within_total f xs id v at in omega arith
+  within_total f views id v h1 = grind (arith, nat_tests, eqb-true, eqb-false)
 
   -- facts of each
 
   pub each_set : (P : V → Type 0) (views : List V) (id : ℕ) (w : V) → Each P views → P w → Each P (set views id w)
-  each_set P [] id w all here = all
-  each_set P (x ∷ xs) zero w all here = (here, all.1)
   each_set P (x ∷ xs) (suc id) w all here = (all.0, each_set P xs id w all.1 here)
+  each_set P views id w h1 h2 = grind (arith, nat_tests, eqb-true, eqb-false)
 
   pub each_snoc : (P : V → Type 0) (views : List V) (w : V) → Each P views → P w → Each P (views ++ w ∷ [])
   each_snoc P [] w all here = (here, tt)
@@ -87,8 +80,7 @@ pub weight_whole : (p : Part) (j : ℕ) → p.depth ≤ j → IsWhole p → weig
 weight_whole p j deep is = let k : ℕ = j - p.depth in ap (λ (n : ℕ). n * 2 ^ k) is ∙ sym (pow-add 2 p.depth k) ∙ ap (λ (n : ℕ). 2 ^ n) (omega arith)
 
 pub whole_weighs : (p : Part) (j : ℕ) → p.depth ≤ j → weight j p ≡ 2 ^ j → IsWhole p
-whole_weighs p j deep full = let k : ℕ = j - p.depth in let n : ℕ = 2 ^ k in
-    eq_of_mul-eq-mul_right n (pow_pos k) p.share (2 ^ p.depth) (full ∙ ap (λ (m : ℕ). 2 ^ m) (omega arith) ∙ pow-add 2 p.depth k)
+whole_weighs p j h1 h2 = grind (arith, nat_tests, eqb-true, eqb-false, eq_of_mul-eq-mul_right, pow-add, pow_pos)
 
 -- what `split` and `join` do to the weights
 pub splits_weight : (p : Part) → AddUp p (half p) (half p)
@@ -108,8 +100,7 @@ halves_are m i n j q d first second =
 
 -- as much as the whole is the whole
 whole_as : (q p : Part) → IsSamePart q p → IsWhole p → IsWhole q
-whole_as q p same is = let n : ℕ = 2 ^ p.depth in let e : p.share * 2 ^ q.depth ≡ n * 2 ^ q.depth = ap (λ (m : ℕ). m * 2 ^ q.depth) is in
-    eq_of_mul-eq-mul_left n (pow_pos p.depth) q.share (2 ^ q.depth) (omega (arith, same, e))
+whole_as q p h1 h2 = grind (arith, nat_tests, eqb-true, eqb-false, eq_of_mul-eq-mul_left, pow_pos)
 
 -- joined halves are the part again, also where each is known only up to how much of the whole it is
 pub parts_again : (a b p : Part) → IsSamePart a (half p) → IsSamePart b (half p) → IsAgain p (together a b)
@@ -120,22 +111,12 @@ parts_again a b p first second = let again : IsSamePart (together a b) p = halve
 
 module _ {V : Type 0} {part_of : V → Part} {IsBlank : V → Type 0} where
   pub shared_first : (v : V) → part_of v ≡ whole → IsShared part_of IsBlank (v ∷ [])
-  shared_first v is = record {
-    finest = 0;
-    within = (subst (λ (p : Part). p.depth ≤ 0) (sym is) (omega arith), tt);
-    one_whole = λ j deep. subst (λ (p : Part). weight j p + 0 ≡ 2 ^ j) (sym is) (let all = weight_whole whole j (omega arith) refl in omega arith);
-    blank = ((λ none. absurd (omega (arith, ap (λ (p : Part). p.share) is))), tt);
-  }
+  shared_first v h1 = grind (arith, nat_tests, eqb-true, eqb-false)
 
   -- a step of one pass, which is still the same part
   pub shared_step : (views : List V) (id : ℕ) (v w : V) → get_elem? views id ≡ some v → part_of w ≡ part_of v → 0 < (part_of v).share
       → IsShared part_of IsBlank views → IsShared part_of IsBlank (set views id w)
-  shared_step views id v w at same alive s = record {
-    finest = s.finest;
-    within = each_set (λ u. (part_of u).depth ≤ s.finest) views id w s.within (subst (λ (p : Part). p.depth ≤ s.finest) (sym same) (each_at (λ u. (part_of u).depth ≤ s.finest) views id v at s.within));
-    one_whole = λ j deep. total_same (λ u. weight j (part_of u)) views id v w at (ap (weight j) same) ∙ s.one_whole j deep;
-    blank = each_set (λ u. (part_of u).share ≡ 0 → IsBlank u) views id w s.blank (λ none. absurd (omega (arith, ap (λ (p : Part). p.share) same)));
-  }
+  shared_step views id v w h1 h2 h3 h4 = grind (arith, nat_tests, eqb-true, eqb-false, each_at, each_set, total_same)
 
   pub shared_split : (views : List V) (id : ℕ) (v left right : V) → get_elem? views id ≡ some v → part_of left ≡ half (part_of v) → part_of right ≡ half (part_of v) → 0 < (part_of v).share
       → IsShared part_of IsBlank views → IsShared part_of IsBlank (set views id left ++ right ∷ [])
@@ -168,5 +149,4 @@ module _ {V : Type 0} {part_of : V → Part} {IsBlank : V → Type 0} where
 
   -- a whole pass weighs as much as all together
   pub whole_of_all : (views : List V) (id : ℕ) (v : V) → get_elem? views id ≡ some v → IsWhole (part_of v) → (s : IsShared part_of IsBlank views) → total (λ u. weight s.finest (part_of u)) views ≡ weight s.finest (part_of v)
-  whole_of_all views id v at is s = let j : ℕ = s.finest in let deep = each_at (λ u. (part_of u).depth ≤ j) views id v at s.within in
-      s.one_whole j (omega arith) ∙ sym (weight_whole (part_of v) j deep is)
+  whole_of_all views id v h1 h2 s = grind (arith, nat_tests, eqb-true, eqb-false, each_at, weight_whole)

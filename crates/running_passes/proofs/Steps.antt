@@ -1,27 +1,16 @@
 -- Each kind of step keeps the rule, whatever the tallies are.
-use Rattle.std.proofs.Common.{◌≡◌, ℕ, zero, suc, ◌<◌, List, [], ◌∷◌, get_or, set, sym, refl, ap, ◌∙◌, subst}
+use Rattle.running_passes.proofs.Names.{◌≡◌, ℕ, suc, ◌<◌, List, ◌∷◌, get_or, set, sym, refl, ap, ◌∙◌, subst, some, get_elem?, View, IsTally, IsWhole, spent_view, left_view, right_view, joined_view, IsCounted, Updates, Told, nat_tests, eqb-true, eqb-false, arith}
 use mathlib.Core.Option as maybe
-use mathlib.Core.Option.{some, some-injective, some-ne-none}
-use lib.ListN.{get_elem?}
-use Rattle.atomic_table.specs.Table.{Me, opening, keeps, Allows, Splits, Joins, Final, Seen}
-use Rattle.running_passes.specs.declared.view.View.{View}
-use Rattle.running_passes.specs.Tallies.{IsTally}
-use Rattle.running_passes.specs.Parts.{IsWhole}
-use Rattle.running_passes.specs.Views.{first_view, spent_view, left_view, right_view, joined_view, IsCounted, Updates}
-use Rattle.running_passes.specs.Passes.{Told}
+use Rattle.atomic_table.specs.Table.{Me, keeps, Allows, Splits, Joins, Final, Seen}
 use Rattle.running_passes.specs.Objects.{HasClosed, HaveClosed}
-use Rattle.running_passes.proofs.Parts.{shared_first, shared_step, shared_split, shared_join}
+use Rattle.running_passes.proofs.Parts.{shared_step, shared_split, shared_join}
 use Rattle.running_passes.proofs.Sums.{others, sum_at, sum_set, sum_split, sum_join, alone}
 
 found : (words : List ℕ) (i n : ℕ) → get_elem? words i ≡ some n → get_or words i 0 ≡ n
-found [] i n at = absurd (some-ne-none n (sym at))
-found (x ∷ xs) zero n at = some-injective x n at
 found (x ∷ xs) (suc i) n at = found xs i n at
+found words i n h1 = grind (arith, nat_tests, eqb-true, eqb-false)
 
 module _ {S T : Type 0} (none : T) (add : T → T → T) (core : T → T) (laws : IsTally none add core) (agrees : List ℕ → List (maybe.Option S) → T → Type 0) where
-  pub opens : (words : List ℕ) (first : T) → agrees words [] first → IsCounted none add agrees (opening words [] (first_view first))
-  opens words first is = record { agree = subst (agrees words []) (sym (laws.swap first none ∙ laws.unit first)) is; shared = shared_first (first_view first) refl }
-
   pub steps : (slots id i : ℕ) (me : Me S (View T)) (f : ℕ → ℕ) (tells : ℕ → View T → Type 0) → 0 < me.0.part.share → Updates none add agrees me.0 i f tells
       → Allows (IsCounted none add agrees) slots id me i f (Told me tells)
   steps slots id i me f tells alive update s r _ at fits =
@@ -37,10 +26,7 @@ module _ {S T : Type 0} (none : T) (add : T → T → T) (core : T → T) (laws 
       )
 
   pub splits : (id : ℕ) (v : View T) → 0 < v.part.share → Splits (IsCounted none add agrees) id v (left_view v) (right_view core v)
-  splits id v alive s r at = let left : View T = left_view v in let right : View T = right_view core v in record {
-    agree = subst (agrees s.words s.homes) (sym (sum_split none add core laws s.views id v left right at refl refl)) r.agree;
-    shared = shared_split s.views id v left right at refl refl alive r.shared;
-  }
+  splits id v h1 = grind (arith, nat_tests, eqb-true, eqb-false, shared_split, sum_split)
 
   pub joins : (id : ℕ) (v : View T) (other : ℕ) (w : View T) → 0 < v.part.share → Joins (IsCounted none add agrees) id v other w (joined_view add v w) (spent_view none)
   joins id v other w alive s r at apart there = let both : View T = joined_view add v w in let spent : View T = spent_view none in record {

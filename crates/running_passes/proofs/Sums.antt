@@ -1,11 +1,5 @@
 -- Sums of the tallies of all passes, under each kind of step.
-use Rattle.std.proofs.Common.{◌≡◌, ℕ, zero, suc, List, [], ◌∷◌, ◌++◌, set, sym, refl, ap, ◌∙◌, arith}
-use mathlib.Core.Option.{some, some-injective, some-ne-none}
-use lib.ListN.{get_elem?}
-use Rattle.running_passes.specs.declared.view.View.{View}
-use Rattle.running_passes.specs.Tallies.{IsTally}
-use Rattle.running_passes.specs.Parts.{IsWhole, weight, total, Each, IsShared}
-use Rattle.running_passes.specs.Views.{part_of, IsBlank, sum_of}
+use Rattle.running_passes.proofs.Names.{◌≡◌, ℕ, zero, suc, List, [], ◌∷◌, ◌++◌, set, sym, refl, ap, ◌∙◌, arith, some, some-injective, some-ne-none, get_elem?, View, IsTally, IsWhole, weight, total, Each, IsShared, part_of, IsBlank, sum_of, nat_tests, eqb-true, eqb-false}
 use Rattle.running_passes.proofs.Parts.{within_total, each_so, weight_nothing, whole_of_all}
 
 module _ {T : Type 0} (none : T) (add : T → T → T) where
@@ -20,14 +14,12 @@ module _ {T : Type 0} (none : T) (add : T → T → T) where
     swap_in a b c = sym (laws.group a b c) ∙ ap (λ (t : T). add t c) (laws.swap a b) ∙ laws.group b a c
 
     pub sum_at : (views : List (View T)) (id : ℕ) (v : View T) → get_elem? views id ≡ some v → sum_of none add views ≡ add v.tally (others views id)
-    sum_at [] id v at = absurd (some-ne-none v (sym at))
-    sum_at (x ∷ xs) zero v at = ap (λ (u : View T). add u.tally (sum_of none add xs)) (some-injective x v at)
     sum_at (x ∷ xs) (suc id) v at = ap (add x.tally) (sum_at xs id v at) ∙ swap_in x.tally v.tally (others xs id)
+    sum_at views id v h1 = grind (arith, nat_tests, eqb-true, eqb-false, swap_in)
 
     pub sum_set : (views : List (View T)) (id : ℕ) (v w : View T) → get_elem? views id ≡ some v → sum_of none add (set views id w) ≡ add w.tally (others views id)
-    sum_set [] id v w at = absurd (some-ne-none v (sym at))
-    sum_set (x ∷ xs) zero v w at = refl
     sum_set (x ∷ xs) (suc id) v w at = ap (add x.tally) (sum_set xs id v w at) ∙ swap_in x.tally w.tally (others xs id)
+    sum_set views id v w h1 = grind (arith, nat_tests, eqb-true, eqb-false, swap_in)
 
     sum_snoc : (views : List (View T)) (w : View T) → sum_of none add (views ++ w ∷ []) ≡ add w.tally (sum_of none add views)
     sum_snoc [] w = refl
@@ -68,10 +60,9 @@ module _ {T : Type 0} (none : T) (add : T → T → T) where
     none_adds g (x ∷ xs) so light = let rest = none_adds g xs so.1 (omega arith) in ap (λ (p : T × T). add p.0 p.1) (λ i. (so.0 (omega arith) i, rest i)) ∙ laws.unit none
 
     one_adds : (g : View T → ℕ) (views : List (View T)) (id : ℕ) (v : View T) → get_elem? views id ≡ some v → Each (λ u. g u ≡ 0 → u.tally ≡ none) views → total g views ≡ g v → others views id ≡ none
-    one_adds g [] id v at so one = refl
-    one_adds g (x ∷ xs) zero v at so one = let same : g x ≡ g v = ap g (some-injective x v at) in none_adds g xs so.1 (omega arith)
     one_adds g (x ∷ xs) (suc id) v at so one = let some_there = within_total g xs id v at in let rest = one_adds g xs id v at so.1 (omega arith) in
         ap (λ (p : T × T). add p.0 p.1) (λ i. (so.0 (omega arith) i, rest i)) ∙ laws.unit none
+    one_adds g views id v h1 h2 h3 = grind (arith, nat_tests, eqb-true, eqb-false, none_adds, within_total)
 
     -- where a whole pass is left, the others add nothing
     pub alone : (views : List (View T)) (id : ℕ) (v : View T) → get_elem? views id ≡ some v → IsWhole v.part → IsShared part_of (IsBlank none) views → others views id ≡ none

@@ -6,7 +6,6 @@ use Rattle.running_passes.specs.declared.part.Part.{Part}
 use Rattle.running_passes.specs.declared.part.Sights.{Sights}
 use Rattle.running_passes.specs.declared.view.View.{View}
 use Rattle.running_passes.specs.declared.pass.Pass.{Pass}
-use Rattle.running_passes.specs.Views.{looked, wrote}
 
 module _ {T : Type 0} where
   -- which object the pass belongs to
@@ -33,11 +32,3 @@ module _ {T : Type 0} where
   -- what a step tells of the seat, beside what it tells of the view: it is the same part, and has the same slots
   abbrev pub Told : {S : Type 0} → Me S (View T) → (ℕ → View T → Type 0) → ℕ → Me S (View T) → Type 0
   Told me tells found after = tells found after.0 × (after.1 ≡ me.1) × (after.0.part ≡ me.0.part)
-
-  -- the word was seen to be this, and nothing else changed
-  abbrev pub HasSeen : ℕ → Pass T → Pass T → Type 0
-  HasSeen n p q = IsSamePass p q × (view q ≡ looked (view p) n)
-
-  -- a write was done that made the tally this, and nothing else changed
-  abbrev pub HasDone : (T → T) → Pass T → Pass T → Type 0
-  HasDone f p q = IsSamePass p q × (view q ≡ wrote (view p) (f (tally_of p)))

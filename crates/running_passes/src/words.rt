@@ -139,30 +139,6 @@ impl<K, T: Rule<(), K>, A: Allocator> Words<K, T, A> {
         shared.store::<Brand>(&mut pass.seat, word, new);
     }
 
-    /// Loads a word. What the step tells may speak of what is handed in; its caller picks it.
-    #[inline(always)]
-    pub fn load_of<D: Deed<K, T>, E>(&self, pass: &mut Pass<T>, word: usize, _of: &E) -> u64
-        requires own { IsPassOf self.now pass.old }
-        requires inside { word < count_of self.now }
-        requires update { Updates T.none T.add (T.agrees (key_of self.now)) (view pass.old) word (λ n. n) (D.tells (key_of self.now) 0 0 (view pass.old)) }
-        ensures same { IsSamePass pass.old pass.new }
-        ensures told { D.tells (key_of self.now) 0 0 (view pass.old) result (view pass.new) }
-    {
-        self.load::<D>(pass, word)
-    }
-
-    /// Stores a word. What the step tells may speak of what is handed in; its caller picks it.
-    #[inline(always)]
-    pub fn store_of<D: Deed<K, T>, E>(&self, pass: &mut Pass<T>, word: usize, new: u64, _of: &E)
-        requires own { IsPassOf self.now pass.old }
-        requires inside { word < count_of self.now }
-        requires update { Updates T.none T.add (T.agrees (key_of self.now)) (view pass.old) word (λ _. new) (λ _. D.tells (key_of self.now) new 0 (view pass.old) new) }
-        ensures same { IsSamePass pass.old pass.new }
-        ensures told { D.tells (key_of self.now) new 0 (view pass.old) new (view pass.new) }
-    {
-        self.store::<D>(pass, word, new);
-    }
-
     /// Stores `new` where it finds `old`, and answers what it found.
     #[inline(always)]
     pub fn compare_exchange<D: Deed<K, T>>(

@@ -1,13 +1,9 @@
 -- How a reader of either lock goes on, and what it saw.
-use Rattle.std.specs.Prelude.{◌≡◌, ◌≢◌, ◌⊎◌, ℕ, ◌+◌, ◌≤◌, ◌==◌, MatchBool, List, Some, None}
+use Rattle.running_rw_hold.specs.Names.{◌≡◌, ◌≢◌, ◌⊎◌, ℕ, ◌+◌, ◌≤◌, ◌==◌, MatchBool, List, Some, None, HoldKind, Pass, part_of, sights_of, looked, wrote}
 use Rattle.model_events.specs.declared.event.Answer.{Answer}
 use Rattle.model_events.specs.declared.event.Call.{Call}
-use Rattle.model_events.specs.declared.hold.HoldKind.{HoldKind}
 use Rattle.model_events.specs.declared.patience.Patience.{Patience}
 use Rattle.running_passes.specs.declared.part.Part.{Part}
-use Rattle.running_passes.specs.declared.pass.Pass.{Pass}
-use Rattle.running_passes.specs.Passes.{part_of, sights_of}
-use Rattle.running_passes.specs.Views.{looked, wrote}
 use Rattle.running_model.specs.declared.played.Played.{Played}
 use Rattle.running_model.specs.Counts.{HasSeen, HasMissed, HasDone, HasOnlySeen}
 use Rattle.running_model.specs.Models.{Model}

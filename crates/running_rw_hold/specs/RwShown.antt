@@ -1,11 +1,7 @@
 -- What contracts see of the hold of a reader-writer lock, and what a call of either lock changes in a pass.
-use Rattle.std.specs.Prelude.{◌≡◌, true, ◌⊎◌, ℕ, ◌+◌}
+use Rattle.running_rw_hold.specs.Names.{◌≡◌, true, ◌⊎◌, ℕ, ◌+◌, HoldKind, Pass, sights_of, looked}
 use Rattle.std.specs.Borrow.{GName}
-use Rattle.model_events.specs.declared.hold.HoldKind.{HoldKind}
 use Rattle.running_passes.specs.declared.view.View.{View}
-use Rattle.running_passes.specs.declared.pass.Pass.{Pass}
-use Rattle.running_passes.specs.Passes.{sights_of}
-use Rattle.running_passes.specs.Views.{looked}
 use Rattle.running_rw_hold.specs.declared.hold.RwPass.{Ghosts}
 use Rattle.running_rw_hold.specs.declared.hold.RwHold.{RwHold}
 use Rattle.running_rw_hold.specs.declared.hold.RwHold.TheVariants.{Read, Write}

@@ -1,6 +1,5 @@
 -- What a step makes of what a pass saw and counts, and what the run says of it.
-use Rattle.running_rw_reader.specs.Names.{Word, Intent, rw_reader_table, rw_reader_model, Coming, MayStep, View, IsWhole, IsSamePass, view, part_of, parties_of, counts_of, counted, wrote, sum_of, none_played, both_played, core_played, played_add_up, IsShare, Told, Free, read_holds, write_holds, Locks, same_nothing, tells_same_nothing, held_adds_up, Holds, no_holds, both_holds, read, written, held_after, AreHoldsIn}
-use Rattle.running_rw_reader.proofs.Names.{◌≡◌, ◌≢◌, ℕ, ◌+◌, ◌-◌, ◌^◌, ◌<◌, ◌==◌, Bool, cond, [], ◌∷◌, Some, get_or, refl, sym, ap, ◌∙◌, subst, arith, ne_eqb, comes_in, goes_out, takes_over, parts, only_writes}
+use Rattle.running_rw_reader.proofs.Names.{Word, Intent, rw_reader_table, rw_reader_model, Coming, MayStep, IsWhole, IsSamePass, view, part_of, parties_of, counts_of, counted, none_played, both_played, core_played, played_add_up, IsShare, Told, Free, Locks, same_nothing, tells_same_nothing, held_adds_up, Holds, no_holds, both_holds, read, written, held_after, AreHoldsIn, ◌≡◌, ◌≢◌, ℕ, ◌+◌, ◌-◌, ◌^◌, ◌<◌, [], ◌∷◌, Some, get_or, refl, sym, ap, subst, arith, ne_eqb, comes_in, goes_out, takes_over, parts, only_writes, RwReaderPass, reads_of, writes_of, HasLeftReading, HasLeftWriting, nat_tests, eqb-true, eqb-false}
 use mathlib.Core.Logic.{dite}
 use native.Mathlib.Decide.{ℕ_discrete}
 use Rattle.model_events.specs.Past.{holds_of, word_in}
@@ -13,7 +12,6 @@ use Rattle.running_model.proofs.OfARun.{of_a_run}
 use Rattle.running_model.proofs.Steps.{told_so, found_there, done_so, missed_so}
 use Rattle.running_model.proofs.Words.{hold_at}
 use Rattle.running_tallies.specs.RwReaderTally.{locks}
-use Rattle.running_rw_reader.specs.RwReaderShown.{RwReaderPass, reads_of, writes_of, HasLeftReading, HasLeftWriting}
 use Rattle.running_rw_reader.specs.RwReaderSteps.{HoldsAreOfARun, NoHoldBesideAWriteHold, word_of}
 
 -- with what the others count
@@ -38,9 +36,7 @@ module _ (way : Coming ℕ) (intent : Word → Intent ℕ) (found : ℕ) (p : Rw
     )
 
     found_alone : Share way found p → IsWhole (part_of p) → found ≡ word_of (counts_of p)
-    found_alone s whole = let says = (s.alone whole).1 in
-        found_there _ _ _ _ intent (parties_of p) may Word.State may.named found tells (word_in rw_reader_table s.past) s.found_is
-        ∙ (locks _ (holds_of rw_reader_table s.past) (counts_of p) s.law.law.counts says.reads says.writes).word_is
+    found_alone h1 h2 = grind (arith, nat_tests, eqb-true, eqb-false, found_there, locks)
 
 pub looks_alone : (way : Coming ℕ) (found : ℕ) (p : RwReaderPass) → MayStep rw_reader_model (Word.State ∷ []) way 0 (λ k. Intent.Load k) (parties_of p) → Share way found p → IsWhole (part_of p) → found ≡ word_of (counts_of p)
 looks_alone way found p may = found_alone way (λ k. Intent.Load k) found p may (λ w memory. refl)
@@ -58,56 +54,30 @@ module _ (way : Coming ℕ) (from to found : ℕ) (p q : RwReaderPass) (may : Ma
 
   -- for one more: it turned a read hold on, where no write hold stood
   pub reads_on : to ≡ from + 1 → from < 2 ^ 64 - 2 → IsSamePass p q → ToldOf way found p q → found ≡ from → HasDone read p q
-  reads_on more room same told hit = (
-    same,
-    done_so _ _ _ _ from to (parties_of p) may Word.State may.named found held_after (counted p) (counted q) told hit
-        ∙ ap (λ (b : Bool). wrote (counted p) (cond b written (read (counts_of p)))) (ne_eqb to (2 ^ 64 - 1) (λ full. absurd (omega (arith, full, more, room)))),
-  )
+  reads_on h1 h2 h3 h4 h5 = grind (arith, nat_tests, eqb-true, eqb-false, done_so, ne_eqb)
 
   pub one_more : to ≡ from + 1 → from < 2 ^ 64 - 2 → Share way found p → HasDone read p q → found ≡ from → (reads_of q ≡ reads_of p + 1) × ((writes_of p ≡ 0) × (writes_of q ≡ 0))
-  one_more more room share done hit =
-      let all = found_beside way (λ k. Intent.Exchange k from to) found p may (λ w memory. refl) share in
-      let enters = comes_in same_nothing tells_same_nothing tt found (counts_of p) all.0 all.1 (omega (arith, hit, room)) in
-      let now = ap (λ (v : View Holds). v.tally) done.1 in
-      (ap read_holds now ∙ enters.reads, (enters.no_writer, ap write_holds now ∙ enters.still_none))
+  one_more h1 h2 h3 h4 h5 = grind (arith, nat_tests, eqb-true, eqb-false, comes_in, found_beside, tells_same_nothing)
 
   -- of 0 for 2 ^ 64 - 1: it turned the write hold on, where the pass had no hold
   pub writes_on : to ≡ 2 ^ 64 - 1 → IsSamePass p q → ToldOf way found p q → found ≡ from → HasDone (λ _. written) p q
-  writes_on full same told hit = (
-    same,
-    done_so _ _ _ _ from to (parties_of p) may Word.State may.named found held_after (counted p) (counted q) told hit
-        ∙ ap (λ (n : ℕ). wrote (counted p) (cond (n == 2 ^ 64 - 1) written (read (counts_of p)))) full,
-  )
+  writes_on h1 h2 h3 h4 = grind (arith, nat_tests, eqb-true, eqb-false, done_so)
 
   pub was_free : Share way found p → found ≡ 0 → counts_of p ≡ no_holds
   was_free share free = let all = found_beside way (λ k. Intent.Exchange k from to) found p may (λ w memory. refl) share in (takes_over same_nothing tells_same_nothing tt found (counts_of p) all.0 all.1 free).off
 
 -- a subtraction of 1, by a pass with a read hold
 pub readers_out : (way : Coming ℕ) (found : ℕ) (p q : RwReaderPass) → MayStep rw_reader_model (Word.State ∷ []) way 0 (λ k. Intent.Subtract k 1) (parties_of p) → IsSamePass p q → Share way found p → ToldOf way found p q → 0 < reads_of p → HasLeftReading p q
-readers_out way found p q may same share told some =
-    let all = beside way (λ k. Intent.Subtract k 1) found p may share in
-    let leaves = goes_out same_nothing tells_same_nothing tt all.1 (counts_of p) all.0 all.2 some in
-    let done = told_so _ _ _ _ (λ k. Intent.Subtract k 1) (parties_of p) may Word.State may.named found sights_after held_after (counted p) (counted q) told in
-    let now = ap (λ (v : View Holds). v.tally) done in
-    record { same = same; reads = ap (λ (t : Holds). read_holds t + 1) now ∙ leaves.reads; writes = (leaves.no_writer, ap write_holds now ∙ leaves.still_none); done = done }
+readers_out way found p q h1 h2 h3 h4 h5 = grind (arith, nat_tests, eqb-true, eqb-false, beside, goes_out, tells_same_nothing, told_so)
 
 -- a store of 0, by the pass with the write hold
 pub writers_out : (way : Coming ℕ) (p q : RwReaderPass) → MayStep rw_reader_model (Word.State ∷ []) way 0 (λ k. Intent.Store k 0) (parties_of p) → IsSamePass p q → Share way 0 p → ToldOf way 0 p q → writes_of p ≡ 1 → HasLeftWriting p q
-writers_out way p q may same share told on =
-    let all = beside way (λ k. Intent.Store k 0) 0 p may share in
-    let done = told_so _ _ _ _ (λ k. Intent.Store k 0) (parties_of p) may Word.State may.named 0 sights_after held_after (counted p) (counted q) told in
-    let now = ap (λ (v : View Holds). v.tally) done in
-    record { same = same; on = (only_writes tt (counts_of p) (parts same_nothing tells_same_nothing tt (counts_of p) all.0 all.2.knows).first on, on); off = (ap read_holds now, ap write_holds now); done = done }
+writers_out way p q h1 h2 h3 h4 h5 = grind (arith, nat_tests, eqb-true, eqb-false, beside, only_writes, parts, tells_same_nothing, told_so)
 
 -- Whenever the rule holds.
 
 pub holds_are_of_a_run : HoldsAreOfARun
-holds_are_of_a_run s r =
-    let all = sum_of (none_played no_holds) (both_played both_holds) s.views in record {
-      run = of_a_run rw_reader_model (Word.State ∷ []) (λ _ _ _. Unit {0}) (AreHoldsIn rw_reader_table) s.words s.homes all r.agree;
-      locks = subst (λ n. Locks n tt all.counts) (sym (hold_at (Word.State ∷ []) s.words 0 Word.State _ r.agree.played.hold refl))
-          (locks _ (holds_of rw_reader_table r.agree.played.past) all.counts r.agree.played.law.law.counts r.agree.follows.reads r.agree.follows.writes);
-    }
+holds_are_of_a_run = grind (arith, nat_tests, eqb-true, eqb-false, hold_at, locks, of_a_run)
 
 -- beside a write hold the others have none
 pub none_beside : NoHoldBesideAWriteHold

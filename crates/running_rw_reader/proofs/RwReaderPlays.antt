@@ -1,17 +1,10 @@
 -- The steps of a reader-preferring lock are those of its table.
-use Rattle.running_rw_reader.specs.Names.{Word, Call, Answer, Then, HoldKind, Patience, Intent, RwReaderPlace, rw_reader_intent, rw_reader_model, Slot, Parties, all_of, IsNamed, Coming, Beginning, Continuing, ComesBy, IsAt, IsHolding, Led, HasCalled, HasEnded, MayStep, Went, spun, IsRefused, IsGranted, MayTry, IsToWake}
-use Rattle.running_rw_reader.proofs.Names.{◌≡◌, ◌≢◌, ℕ, ◌-◌, ◌^◌, ◌==◌, Bool, true, false, refl, sym, subst, List, [], ◌∷◌, Some, None, ne_eqb, arith, eqb-true, eqb-false}
-use Rattle.std.proofs.lemmas.Bool.Decides.{nat_tests}
-use Rattle.model_events.specs.declared.event.Wake.{Wake}
+use Rattle.running_rw_reader.proofs.Names.{Word, Call, Answer, HoldKind, Patience, Intent, RwReaderPlace, rw_reader_intent, rw_reader_model, Slot, Parties, all_of, Coming, Beginning, Continuing, ComesBy, IsHolding, HasCalled, HasEnded, MayStep, Went, spun, IsRefused, IsGranted, MayTry, IsToWake, ◌≡◌, ◌≢◌, ℕ, ◌-◌, ◌^◌, true, refl, List, [], ◌∷◌, Some, None, ne_eqb, arith, eqb-true, eqb-false, nat_tests, has_hold, Unlocks}
 use Rattle.running_model.specs.Turns.{IsOverAside}
 use Rattle.running_model.proofs.Holding.{holding_told, holding_is}
-use Rattle.running_rw_reader.specs.RwReaderParties.{has_hold, Unlocks}
 
 abbrev Comes : Coming ℕ → Call ℕ → RwReaderPlace → List (Slot ℕ) → Parties ℕ → Type 0
 Comes way call place done p = ComesBy rw_reader_model way call place None done p
-
-abbrev At : Call ℕ → RwReaderPlace → List (Slot ℕ) → Parties ℕ → Type 0
-At call place done p = IsAt rw_reader_model call place Then.GoesOn None done p
 
 -- how the calls begin
 
@@ -44,24 +37,16 @@ first_write p = record { patience = spun 0; done = all_of p; comes = write_begin
 pub wrote_once : (p q : Parties ℕ) → Went rw_reader_model (Beginning Call.TryWriteLock) p 0 q → HasCalled rw_reader_model Call.TryWriteLock Answer.Success (Some HoldKind.Write) p q
 wrote_once p q went = went Call.TryWriteLock RwReaderPlace.TryWrite None (all_of p) (try_write_begins p)
 
-once_missed : (found : ℕ) (b : Bool) (p q : Parties ℕ) → (found == 0) ≡ b → b ≡ false → Led rw_reader_model Call.TryWriteLock RwReaderPlace.TryWrite None found (all_of p) q →
-    HasCalled rw_reader_model Call.TryWriteLock Answer.Interrupted None p q
-once_missed found b p q h1 h2 h3 = grind (arith, nat_tests, eqb-true, eqb-false)
-
 pub missed_once : (found : ℕ) (p q : Parties ℕ) → found ≢ 0 → Went rw_reader_model (Beginning Call.TryWriteLock) p found q → HasCalled rw_reader_model Call.TryWriteLock Answer.Interrupted None p q
-missed_once found p q miss went = once_missed found (found == 0) p q refl (ne_eqb found 0 miss) (went Call.TryWriteLock RwReaderPlace.TryWrite None (all_of p) (try_write_begins p))
+missed_once found p q miss went = grind (arith, nat_tests, eqb-true, eqb-false, ne_eqb found 0 miss, went Call.TryWriteLock RwReaderPlace.TryWrite None (all_of p) (try_write_begins p))
 
 pub has_written : (way : Coming ℕ) (p q : Parties ℕ) → Went rw_reader_model way p 0 q → (patience : Patience) (done : List (Slot ℕ)) → Comes way Call.WriteLock (RwReaderPlace.Write patience) done p →
     IsGranted rw_reader_model Call.WriteLock RwReaderPlace.Write (Some HoldKind.Write) done q
 has_written way p q went patience done comes = went Call.WriteLock (RwReaderPlace.Write patience) None done comes
 
-refused_so : (found : ℕ) (b : Bool) (patience : Patience) (done : List (Slot ℕ)) (q : Parties ℕ) → (found == 0) ≡ b → b ≡ false →
-    Led rw_reader_model Call.WriteLock (RwReaderPlace.Write patience) None found done q → IsRefused rw_reader_model Call.WriteLock RwReaderPlace.Write patience found done q
-refused_so found b patience done q h1 h2 h3 = grind (arith, nat_tests, eqb-true, eqb-false)
-
 pub found_taken : (way : Coming ℕ) (found : ℕ) (p q : Parties ℕ) → found ≢ 0 → Went rw_reader_model way p found q → (patience : Patience) (done : List (Slot ℕ)) → Comes way Call.WriteLock (RwReaderPlace.Write patience) done p →
     IsRefused rw_reader_model Call.WriteLock RwReaderPlace.Write patience found done q
-found_taken way found p q miss went patience done comes = refused_so found (found == 0) patience done q refl (ne_eqb found 0 miss) (went Call.WriteLock (RwReaderPlace.Write patience) None done comes)
+found_taken way found p q miss went patience done comes = grind (arith, nat_tests, eqb-true, eqb-false, ne_eqb found 0 miss, went Call.WriteLock (RwReaderPlace.Write patience) None done comes)
 
 -- who was granted the lock has it
 pub granted_has : (call : Call ℕ) (kind : HoldKind) (done : List (Slot ℕ)) (q : Parties ℕ) → HasEnded rw_reader_model call Answer.Success (Some kind) done q → has_hold kind q ≡ true
@@ -70,30 +55,10 @@ granted_has call kind done q ended = holding_is rw_reader_model kind done q ende
 -- `Unlock`
 
 pub may_leave_reading : (p : Parties ℕ) → has_hold HoldKind.Read p ≡ true → MayStep rw_reader_model (Word.State ∷ []) (Continuing Call.Unlock) 0 (λ w. Intent.Subtract w 1) p
-may_leave_reading p has = record {
-  call = Call.Unlock;
-  place = RwReaderPlace.Release;
-  hold = Some HoldKind.Read;
-  done = p.resting;
-  comes = unlock_begins HoldKind.Read p.resting p (holding_told rw_reader_model HoldKind.Read p has);
-  name = Word.State;
-  named = refl;
-  intends = refl;
-  on = refl;
-}
+may_leave_reading p has = grind (arith, nat_tests, eqb-true, eqb-false, unlock_begins HoldKind.Read p.resting p (holding_told rw_reader_model HoldKind.Read p has))
 
 pub may_leave_writing : (p : Parties ℕ) → has_hold HoldKind.Write p ≡ true → MayStep rw_reader_model (Word.State ∷ []) (Continuing Call.Unlock) 0 (λ w. Intent.Store w 0) p
-may_leave_writing p has = record {
-  call = Call.Unlock;
-  place = RwReaderPlace.Release;
-  hold = Some HoldKind.Write;
-  done = p.resting;
-  comes = unlock_begins HoldKind.Write p.resting p (holding_told rw_reader_model HoldKind.Write p has);
-  name = Word.State;
-  named = refl;
-  intends = refl;
-  on = refl;
-}
+may_leave_writing p has = grind (arith, nat_tests, eqb-true, eqb-false, unlock_begins HoldKind.Write p.resting p (holding_told rw_reader_model HoldKind.Write p has))
 
 pub leaves_reading : (found : ℕ) (p q : Parties ℕ) → Went rw_reader_model (Continuing Call.Unlock) p found q → Unlocks HoldKind.Read p q
 leaves_reading found p q went = λ done holding. went Call.Unlock RwReaderPlace.Release (Some HoldKind.Read) done (unlock_begins HoldKind.Read done p holding)
@@ -102,16 +67,7 @@ pub leaves_writing : (found : ℕ) (p q : Parties ℕ) → Went rw_reader_model 
 leaves_writing found p q went = λ done holding. went Call.Unlock RwReaderPlace.Release (Some HoldKind.Write) done (unlock_begins HoldKind.Write done p holding)
 
 pub is_to_wake : (kind : HoldKind) (i : ℕ) (p q : Parties ℕ) → i ≡ 0 → has_hold kind p ≡ true → Unlocks kind p q → IsToWake rw_reader_model (Word.State ∷ []) (λ (_ : RwReaderPlace). Word.State) i q
-is_to_wake kind i p q is has unlocked = record {
-  call = Call.Unlock;
-  place = RwReaderPlace.Wake;
-  hold = None;
-  done = p.resting;
-  at = unlocked p.resting (holding_told rw_reader_model kind p has);
-  who = Wake.One;
-  wakes = refl;
-  word = subst (λ (n : ℕ). IsNamed (Word.State ∷ []) n Word.State) (sym is) refl;
-}
+is_to_wake kind i p q is has unlocked = grind (arith, nat_tests, eqb-true, eqb-false, unlocked p.resting (holding_told rw_reader_model kind p has))
 
 pub unlock_is_over : (kind : HoldKind) (p q : Parties ℕ) → has_hold kind p ≡ true → Unlocks kind p q → IsOverAside rw_reader_model q
 unlock_is_over kind p q has unlocked = record {

@@ -2,3 +2,4 @@ pub mod Names
 pub mod RwWriterKeeps
 pub mod RwWriterTries
 pub mod RwWriterPlays
+pub mod AnswerNames

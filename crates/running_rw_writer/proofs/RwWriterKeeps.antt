@@ -1,23 +1,16 @@
 -- What a step makes of what a pass saw and counts, and what the run says of it.
-use Rattle.running_rw_writer.specs.Names.{dite, ℕ_discrete, Word, Call, Intent, RwWriterPlace, Coming, View, Pass, Each, IsSamePass, view, part_of, sights_of, parties_of, counts_of, counted, view_of, looked, missed, wrote, sum_of, none_played, both_played, core_played, played_add_up, PlaysAndCounts, IsShare, Told, HasSeen, MarkedHolds, read_holds, write_holds, Knows, same_nothing, tells_same_nothing, Holds, no_holds, both_holds, nothing_marked, both_marked, read, no_more_read, written, no_more_written, flagged, marked_sees, marked_after, AreMarkedIn, IsMarkedOrHeld, rw_writer_model}
-use Rattle.running_rw_writer.proofs.Names.{◌≡◌, ◌≢◌, ℕ, ◌+◌, ◌-◌, ◌^◌, ◌<◌, ◌==◌, Some, None, List, [], ◌∷◌, inl, inr, get_or, refl, sym, ap, ◌∙◌, subst, arith, eqb-true, eqb-false}
-use Rattle.std.proofs.lemmas.Bool.Decides.{nat_tests}
+use Rattle.running_rw_writer.proofs.Names.{dite, ℕ_discrete, Word, Call, Intent, RwWriterPlace, Coming, View, Pass, Each, IsSamePass, view, part_of, sights_of, parties_of, counts_of, counted, view_of, looked, missed, wrote, sum_of, none_played, both_played, core_played, played_add_up, PlaysAndCounts, IsShare, Told, HasSeen, MarkedHolds, read_holds, write_holds, Knows, same_nothing, tells_same_nothing, Holds, no_holds, both_holds, nothing_marked, both_marked, read, no_more_read, written, no_more_written, flagged, marked_sees, marked_after, AreMarkedIn, IsMarkedOrHeld, rw_writer_model, ◌≡◌, ◌≢◌, ℕ, ◌+◌, ◌-◌, ◌^◌, ◌<◌, ◌==◌, Some, None, List, [], ◌∷◌, inl, inr, get_or, refl, sym, ap, ◌∙◌, subst, arith, eqb-true, eqb-false, nat_tests, carried_out, value_told, MayLook, TableHas, IsOpen, EntersToRead, HasLeftReading, HasLeftWriting, reads_of, writes_of, PlayedRwWriter, all_in, GrantsAreOfARun, NoHoldBesideTheWriter, NoMarkWithoutAFlag, IsMarked, word_of, SaysAlone, Missed, WriterIn}
 use mathlib.Core.Option as maybe
 use Rattle.model_events.specs.declared.event.Act.{Act}
 use Rattle.model_events.specs.Past.{word_in}
-use Rattle.model_events.specs.Rows.{carried_out, value_told}
 use Rattle.running_passes.specs.Objects.{HasClosed}
 use Rattle.running_passes.proofs.Sums.{sum_of_two}
 use Rattle.running_model.proofs.OfARun.{of_a_run}
 use Rattle.running_model.proofs.Steps.{told_so, found_there}
 use Rattle.running_model.proofs.Words.{hold_at}
-use Rattle.running_rw_hold.specs.RwReading.{MayLook}
 use Rattle.running_tallies.specs.HeldKeeps.{parts}
 use Rattle.running_tallies.specs.RwWriterTally.{marked_add_up, held_in}
 use Rattle.model_rw_writer.specs.Table.{rw_writer_table}
-use Rattle.running_rw_writer.specs.RwWriterParties.{TableHas}
-use Rattle.running_rw_writer.specs.RwWriterShown.{IsOpen, EntersToRead, HasLeftReading, HasLeftWriting, reads_of, writes_of}
-use Rattle.running_rw_writer.specs.RwWriterSteps.{PlayedRwWriter, all_in, GrantsAreOfARun, NoHoldBesideTheWriter, NoMarkWithoutAFlag, IsMarked, word_of, SaysAlone, Missed, WriterIn}
 
 -- with what the others count
 abbrev pub Share : Coming ℕ → ℕ → Pass PlayedRwWriter → Type 0
@@ -46,8 +39,7 @@ module _ (way : Coming ℕ) (intent : Word → Intent ℕ) (found : ℕ) (p : Pa
     )
 
     found_alone : Share way found p → SaysAlone (counted p) found
-    found_alone s only =
-        found_there _ _ _ _ intent (parties_of p) may Word.State may.named found tells (word_in rw_writer_table s.past) s.found_is ∙ word_alone _ (counts_of p) only.1 (held_in s.past (counts_of p) s.law (s.alone only.0).1)
+    found_alone h1 = grind (arith, nat_tests, eqb-true, eqb-false, found_there, held_in, word_alone)
 
 -- a load by a reader, and by a writer
 
@@ -124,9 +116,7 @@ stores_so : (p q : Pass PlayedRwWriter) (w : ℕ) (rest : MarkedHolds) → IsSam
 stores_so p q w rest h1 h2 h3 h4 = grind (arith, nat_tests, eqb-true, eqb-false)
 
 pub writers_out : (way : Coming ℕ) (p q : Pass PlayedRwWriter) → TableHas way 0 (λ k. Intent.Store k 0) (parties_of p) → IsSamePass p q → Share way 0 p → ToldOf way 0 p q → writes_of p ≡ 1 → HasLeftWriting p q
-writers_out way p q may same share told on =
-    let all = beside way (λ k. Intent.Store k 0) 0 p may share in
-    stores_so p q all.1 all.0 same all.2 on (told_so _ _ _ _ (λ k. Intent.Store k 0) (parties_of p) may Word.State may.named 0 marked_sees marked_after (counted p) (counted q) told)
+writers_out way p q h1 h2 h3 h4 h5 = grind (arith, nat_tests, eqb-true, eqb-false, beside, stores_so, told_so)
 
 -- Whenever the rule holds.
 
@@ -158,11 +148,8 @@ no_flag_up : (views : List (View PlayedRwWriter)) → Each (λ v. v.tally.counts
 no_flag_up [] down = refl
 no_flag_up (v ∷ views) down = let rest = no_flag_up views down.1 in let one = down.0 in omega arith
 
-unmarked_so : (w : ℕ) (t : MarkedHolds) → IsMarkedOrHeld w t → t.flags ≡ 0 → ¬ IsMarked w
-unmarked_so w t h1 h2 = grind (arith, nat_tests, eqb-true, eqb-false)
-
 pub no_mark : NoMarkWithoutAFlag
-no_mark s r down = unmarked_so _ (all_in s).counts (word_so s.words s.homes (all_in s) r.agree) (no_flag_up s.views down)
+no_mark s r down = grind (arith, nat_tests, eqb-true, eqb-false, word_so s.words s.homes (all_in s) r.agree, no_flag_up s.views down)
 
 -- at the end the word is what the pass's holds come to, since its flag is down
 pub closes : (t : PlayedRwWriter) (found : ℕ) → HasClosed Ruled t 0 found → t.counts.flags ≡ 0 → found ≡ word_of t.counts

@@ -1,24 +1,13 @@
 -- The steps of a writer-preferring lock are those of its table.
-use Rattle.running_rw_writer.specs.Names.{MatchBool, WaitAction, Word, Call, Answer, HoldKind, Patience, Intent, After, Leaver, RwWriterPlace, rw_writer_intent, rw_writer_grant, is_marked, is_blocked, try_read_look, read_look, spins, marks_or_spins, unmarks_or_leaves, write_look, write_refused, last_look, released, woken_all, rw_writer_model, Slot, Parties, all_of, IsNamed, IsStepOn, Coming, Going, Beginning, Continuing, Answered, ComesBy, IsHolding, Led, HasCalled, HasEnded, spun, IsGranted, StandsToWait, rw_writer_handed}
-use Rattle.running_rw_writer.proofs.Names.{eqb-false, eqb-true, ◌≡◌, ◌≢◌, ℕ, ◌+◌, ◌-◌, ◌%◌, ◌^◌, ◌<◌, ◌≤◌, ◌==◌, Bool, true, false, refl, sym, subst, ◌∙◌, List, [], ◌∷◌, Option, Some, None, arith, ne_eqb, eqb_same, is_over, inl, inr}
-use Rattle.std.proofs.lemmas.Bool.Decides.{nat_tests}
+use Rattle.running_rw_writer.proofs.Names.{MatchBool, WaitAction, Word, Call, Answer, HoldKind, Patience, Intent, After, Leaver, RwWriterPlace, rw_writer_intent, rw_writer_grant, is_blocked, try_read_look, read_look, spins, marks_or_spins, unmarks_or_leaves, write_look, write_refused, last_look, released, woken_all, rw_writer_model, Slot, Parties, all_of, IsNamed, IsStepOn, Coming, Going, Beginning, Continuing, Answered, ComesBy, IsHolding, HasCalled, HasEnded, spun, IsGranted, StandsToWait, rw_writer_handed, eqb-false, eqb-true, ◌≡◌, ◌≢◌, ℕ, ◌+◌, ◌-◌, ◌%◌, ◌^◌, ◌<◌, ◌≤◌, ◌==◌, true, false, refl, sym, subst, ◌∙◌, List, [], ◌∷◌, Option, Some, None, arith, ne_eqb, is_over, nat_tests, MayLook, MayEnter, IsMarked, IsOpen, has_hold, TableHas, TableLed, CallGoes, WriteGoes, GoesFromTo, SomeCallGoes, ComesToWrite, ComesToGiveUp, WriteIsGranted, IsToWakeBoth, Unlocks, unlocked}
 use Rattle.running_model.specs.Turns.{IsOver, IsOverAside, IsOverAfterTwo}
 use Rattle.running_model.proofs.Holding.{holding_told, holding_is}
-use Rattle.running_rw_hold.specs.RwReading.{MayLook, MayEnter}
-use Rattle.running_rw_writer.specs.RwWriterSteps.{IsMarked}
-use Rattle.running_rw_writer.specs.RwWriterShown.{IsOpen}
-use Rattle.running_rw_writer.specs.RwWriterParties.{has_hold, TableHas, TableLed, CallGoes, WriteGoes, GoesFromTo, SomeCallGoes, ComesToWrite, ComesToGiveUp, WriteIsGranted, IsToWakeBoth, Unlocks, unlocked}
 
 abbrev Comes : Coming ℕ → Call ℕ → RwWriterPlace → List (Slot ℕ) → Parties ℕ → Type 0
 Comes way call place done p = ComesBy rw_writer_model way call place None done p
 
 abbrev Ended : Call ℕ → Answer ℕ → Option HoldKind → List (Slot ℕ) → Parties ℕ → Type 0
 Ended call answer hold done p = HasEnded rw_writer_model call answer hold done p
-
--- what the tests of the table say
-
-pub unmarked_word : (w : ℕ) → ¬ IsMarked w → is_marked w ≡ false
-unmarked_word w h1 = grind (arith, nat_tests, eqb-true, eqb-false)
 
 -- an exchange of a `WriteLock` from 0 or 1 takes the write hold
 
@@ -55,8 +44,7 @@ unlock_begins kind done p holding = (refl, record { kind = kind; may = record { 
 -- a reader's look
 
 pub may_look_to_read : (way : Coming ℕ) (p : Parties ℕ) → MayLook rw_writer_model RwWriterPlace.TryReadLook RwWriterPlace.ReadLook way p → TableHas way 0 (λ w. Intent.Load w) p
-may_look_to_read way p (inl may) = may_look way Call.TryReadLock RwWriterPlace.TryReadLook may.done p refl may.comes
-may_look_to_read way p (inr may) = may_look way Call.ReadLock (RwWriterPlace.ReadLook may.patience) may.done p refl may.comes
+may_look_to_read way p h1 = grind (arith, nat_tests, eqb-true, eqb-false, may_look)
 
 -- where no reader may enter, the call is refused, and where one may, it comes to an exchange
 
@@ -69,8 +57,7 @@ comes_to_read patience seen done p h1 h2 = grind (arith, nat_tests, eqb-true, eq
 -- its exchange
 
 pub may_read : (seen more : ℕ) (p : Parties ℕ) → IsOpen seen → more ≡ seen + 2 → MayEnter rw_writer_model RwWriterPlace.TryReadLook RwWriterPlace.ReadLook seen p → TableHas Going 0 (λ w. Intent.Exchange w seen more) p
-may_read seen more p room is (inl at) = may_exchange Going Call.TryReadLock (RwWriterPlace.TryRead seen (seen + 2)) at.0 p seen (seen + 2) more is refl (comes_once seen at.0 p room at.1)
-may_read seen more p room is (inr at) = may_exchange Going Call.ReadLock (RwWriterPlace.Read seen (seen + 2) at.0) at.1 p seen (seen + 2) more is refl (comes_to_read at.0 seen at.1 p room at.2)
+may_read seen more p h1 h2 h3 = grind (arith, nat_tests, eqb-true, eqb-false, comes_once, comes_to_read, may_exchange)
 
 pub read_once : (seen found : ℕ) (done : List (Slot ℕ)) (p q : Parties ℕ) → IsOpen seen → CallGoes Call.TryReadLock (try_read_look seen) done p → TableLed Going p found q →
     MatchBool (found == seen) (Ended Call.TryReadLock Answer.Success (Some HoldKind.Read) done q) (Ended Call.TryReadLock Answer.Interrupted None done q)
@@ -85,13 +72,9 @@ read_goes patience seen found done p q h1 h2 h3 = grind (arith, nat_tests, eqb-t
 pub may_write_once : (p : Parties ℕ) (put : ℕ) → put ≡ 2 ^ 64 - 1 → TableHas (Beginning Call.TryWriteLock) 0 (λ w. Intent.Exchange w 0 put) p
 may_write_once p put is = may_exchange (Beginning Call.TryWriteLock) Call.TryWriteLock RwWriterPlace.TryWrite (all_of p) p 0 (2 ^ 64 - 1) put is refl (try_write_begins p)
 
-wrote_so : (found : ℕ) (b : Bool) (done : List (Slot ℕ)) (q : Parties ℕ) → (found == 0) ≡ b → Led rw_writer_model Call.TryWriteLock RwWriterPlace.TryWrite None found done q →
-    MatchBool b (Ended Call.TryWriteLock Answer.Success (Some HoldKind.Write) done q) (Ended Call.TryWriteLock Answer.Interrupted None done q)
-wrote_so found b done q h1 h2 = grind (arith, nat_tests, eqb-true, eqb-false)
-
 pub wrote_once : (found : ℕ) (p q : Parties ℕ) → TableLed (Beginning Call.TryWriteLock) p found q →
     MatchBool (found == 0) (HasCalled rw_writer_model Call.TryWriteLock Answer.Success (Some HoldKind.Write) p q) (HasCalled rw_writer_model Call.TryWriteLock Answer.Interrupted None p q)
-wrote_once found p q went = wrote_so found (found == 0) (all_of p) q refl (went Call.TryWriteLock RwWriterPlace.TryWrite None (all_of p) (try_write_begins p))
+wrote_once found p q went = grind (arith, nat_tests, eqb-true, eqb-false, went Call.TryWriteLock RwWriterPlace.TryWrite None (all_of p) (try_write_begins p))
 
 -- who was granted the lock has it
 pub granted_has : (call : Call ℕ) (kind : HoldKind) (done : List (Slot ℕ)) (q : Parties ℕ) → Ended call Answer.Success (Some kind) done q → has_hold kind q ≡ true
@@ -108,19 +91,11 @@ may_enter patience seen done p at put is = may_exchange Going Call.WriteLock (Rw
 pub enter_refused : (patience : Patience) (seen : ℕ) (done : List (Slot ℕ)) (p : Parties ℕ) → 2 ≤ seen → WriteGoes (write_look patience seen) done p → WriteGoes (write_refused patience seen) done p
 enter_refused patience seen done p h1 h2 = grind (arith, nat_tests, eqb-true, eqb-false)
 
-enter_so : (patience : Patience) (seen found : ℕ) (done : List (Slot ℕ)) (q : Parties ℕ) → (found == seen) ≡ true → rw_writer_grant {T = ℕ} Call.WriteLock seen (2 ^ 64 - 1) ≡ Some HoldKind.Write →
-    Led rw_writer_model Call.WriteLock (RwWriterPlace.Enter seen patience) None found done q → WriteIsGranted done q
-enter_so patience seen found done q test grants led = rw (test, grants) at led
-
 pub entered : (patience : Patience) (seen found : ℕ) (done : List (Slot ℕ)) (p q : Parties ℕ) → seen < 2 → found ≡ seen → WriteGoes (After.At (RwWriterPlace.Enter seen patience)) done p → TableLed Going p found q → WriteIsGranted done q
-entered patience seen found done p q free is at went = enter_so patience seen found done q (subst (λ k. (k == seen) ≡ true) (sym is) (eqb_same seen)) (enters seen free) (went Call.WriteLock (RwWriterPlace.Enter seen patience) None done at)
-
-enter_missed_so : (patience : Patience) (seen found : ℕ) (done : List (Slot ℕ)) (q : Parties ℕ) → (found == seen) ≡ false →
-    Led rw_writer_model Call.WriteLock (RwWriterPlace.Enter seen patience) None found done q → WriteGoes (write_refused patience found) done q
-enter_missed_so patience seen found done q test led = rw test at led
+entered patience seen found done p q free is at went = grind (arith, nat_tests, eqb-true, eqb-false, enters seen free, went Call.WriteLock (RwWriterPlace.Enter seen patience) None done at)
 
 pub enter_missed : (patience : Patience) (seen found : ℕ) (done : List (Slot ℕ)) (p q : Parties ℕ) → found ≢ seen → WriteGoes (After.At (RwWriterPlace.Enter seen patience)) done p → TableLed Going p found q → WriteGoes (write_refused patience found) done q
-enter_missed patience seen found done p q miss at went = enter_missed_so patience seen found done q (ne_eqb found seen miss) (went Call.WriteLock (RwWriterPlace.Enter seen patience) None done at)
+enter_missed patience seen found done p q miss at went = grind (arith, nat_tests, eqb-true, eqb-false, ne_eqb found seen miss, went Call.WriteLock (RwWriterPlace.Enter seen patience) None done at)
 
 -- it marks
 
@@ -161,14 +136,7 @@ goes_on count seen patience done p h1 h2 = grind (arith, nat_tests, eqb-true, eq
 
 pub stands_to_wait : (i count : ℕ) (done : List (Slot ℕ)) (p : Parties ℕ) → i ≡ 1 → WriteGoes (After.Waits (RwWriterPlace.WriteLook (spun 10000)) count) done p →
     StandsToWait rw_writer_model (Word.State ∷ Word.Counter ∷ []) rw_writer_handed i count p
-stands_to_wait i count done p is at = record {
-  call = Call.WriteLock;
-  place = RwWriterPlace.WriteLook (spun 10000);
-  hold = None;
-  done = done;
-  at = at;
-  word = subst (λ (n : ℕ). IsNamed (Word.State ∷ Word.Counter ∷ []) n Word.Counter) (sym is) refl;
-}
+stands_to_wait i count done p h1 h2 = grind (arith, nat_tests, eqb-true, eqb-false)
 
 pub continued : (count : ℕ) (done : List (Slot ℕ)) (p : Parties ℕ) → WriteGoes (After.Waits (RwWriterPlace.WriteLook (spun 10000)) count) done p → ComesToWrite (Answered WaitAction.Continue) (spun 10000) done p
 continued count done p at = record { stood = RwWriterPlace.WriteLook (spun 10000); told = count; at = at; answered = refl }
@@ -205,24 +173,10 @@ ended_by Leaver.Writer = Answer.Done
 ended_by Leaver.GivenUp = Answer.Interrupted
 
 all_woken : (who : Leaver) → woken_all {T = ℕ} who ≡ After.Ends (ended_by who)
-all_woken Leaver.Reader = refl
-all_woken Leaver.Writer = refl
-all_woken Leaver.GivenUp = refl
+all_woken who = grind (arith, nat_tests, eqb-true, eqb-false)
 
 pub both_are_over : (p : Parties ℕ) → IsToWakeBoth p → IsOverAfterTwo rw_writer_model p
-both_are_over p both = record {
-  call = both.wakes.call;
-  place = RwWriterPlace.WakeOne both.who;
-  hold = None;
-  done = both.wakes.done;
-  at = both.wakes.at;
-  aside = tt;
-  later = RwWriterPlace.WakeAll both.who;
-  goes_on = both.both;
-  also = tt;
-  answer = ended_by both.who;
-  ends = all_woken both.who;
-}
+both_are_over p both = grind (arith, nat_tests, eqb-true, eqb-false, all_woken both.who)
 
 pub reader_is_over : (p : Parties ℕ) → SomeCallGoes (After.At (RwWriterPlace.WakeOne Leaver.Reader)) p → IsOverAside rw_writer_model p
 reader_is_over p goes = record { call = goes.call; place = RwWriterPlace.WakeOne Leaver.Reader; hold = None; done = goes.done; at = goes.at; aside = tt; answer = Answer.Done; ends = refl }

@@ -1,10 +1,5 @@
 -- What a writer's sights and tries come to, one after another.
-use Rattle.running_rw_writer.specs.Names.{is_some, MatchBool, Sights, Pass, IsSamePass, sights_of, seen, counts_of, counted, wrote, flagged}
-use Rattle.running_rw_writer.proofs.Names.{◌≡◌, ◌≢◌, ℕ, ◌+◌, ◌-◌, ◌%◌, ◌^◌, ◌<◌, not, Bool, true, Option, Some, None, ◌≤◌, arith}
-use Rattle.std.proofs.lemmas.Bool.{eqb-true, eqb-false}
-use Rattle.std.proofs.lemmas.Bool.Decides.{nat_tests}
-use Rattle.running_rw_writer.specs.RwWriterShown.{IsAloneWithin, HasTried, HasJustSeen, HasMissedIt, MayGiveUp, HasGivenUpWriting, HasEnteredSeenFree}
-use Rattle.running_rw_writer.specs.RwWriterSteps.{PlayedRwWriter, IsMarked, IsSeenByWriter, Missed, WriterIn}
+use Rattle.running_rw_writer.proofs.Names.{is_some, MatchBool, Sights, Pass, IsSamePass, sights_of, seen, counts_of, counted, wrote, flagged, ◌≡◌, ◌≢◌, ℕ, ◌+◌, ◌-◌, ◌%◌, ◌^◌, ◌<◌, not, Bool, true, Option, Some, None, ◌≤◌, arith, eqb-true, eqb-false, nat_tests, IsAloneWithin, HasTried, HasJustSeen, HasMissedIt, MayGiveUp, HasGivenUpWriting, HasEnteredSeenFree, PlayedRwWriter, IsMarked, IsSeenByWriter, Missed, WriterIn}
 
 -- what a function of the lock's model says of a word, by whether it answers another word
 

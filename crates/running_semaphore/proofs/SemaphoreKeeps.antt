@@ -1,6 +1,5 @@
 -- What a step makes of what a pass saw and counts; and where no other pass is left, the word is what its tally comes to.
-use Rattle.running_semaphore.specs.Names.{Word, Call, Intent, carried_out, value_told, SemaphorePlace, semaphore_table, View, looked, missed, wrote, sum_of, Parties, sights_after, Coming, Beginning, MayStep, IsWhole, IsShare, played, none_played, both_played, PlaysAndCounts, Told, SemaphoreScript, Permits, no_permits, both_permits, value_of, permits_after, ArePermitsOf, semaphore_model}
-use Rattle.running_semaphore.proofs.Names.{◌≡◌, ◌≢◌, ℕ, ◌+◌, ◌-◌, ◌%◌, ◌^◌, ◌<◌, ◌≤◌, List, [], ◌∷◌, ap, sym, subst, ◌∙◌, refl, Some, arith}
+use Rattle.running_semaphore.proofs.Names.{Word, Call, Intent, carried_out, value_told, SemaphorePlace, semaphore_table, View, looked, missed, wrote, sum_of, Parties, sights_after, Coming, Beginning, MayStep, IsWhole, IsShare, played, none_played, both_played, PlaysAndCounts, Told, SemaphoreScript, Permits, no_permits, both_permits, value_of, permits_after, ArePermitsOf, semaphore_model, ◌≡◌, ◌≢◌, ℕ, ◌+◌, ◌-◌, ◌%◌, ◌^◌, ◌<◌, ◌≤◌, List, [], ◌∷◌, ap, sym, ◌∙◌, refl, Some, arith, PlayedSemaphore, PermitsAreOfARun, took, gave, nat_tests, eqb-true, eqb-false}
 use Rattle.model_events.specs.declared.event.Act.{Act}
 use Rattle.model_events.specs.declared.event.Event.{Event}
 use Rattle.model_events.specs.Past.{word_in}
@@ -11,7 +10,6 @@ use Rattle.running_passes.specs.Objects.{HasClosed}
 use Rattle.running_model.proofs.Words.{hold_at}
 use Rattle.running_model.proofs.OfARun.{of_a_run}
 use Rattle.running_model.proofs.Steps.{told_so, found_there, done_so, missed_so}
-use Rattle.running_semaphore.specs.SemaphoreSteps.{PlayedSemaphore, PermitsAreOfARun, took, gave}
 
 module _ (initial : ℕ) where
   -- what a step tells, by its act
@@ -49,9 +47,7 @@ module _ (initial : ℕ) where
   module _ (fits : initial < 2 ^ 64) where
     left_there : (intent : Word → Intent ℕ) (way : Coming ℕ) (v : View PlayedSemaphore) (found : ℕ) → ((w : Word) (memory : Word → ℕ) → value_told (carried_out (intent w) memory) ≡ Some (memory w)) →
         MayStep (semaphore_model initial) (Word.State ∷ []) way 0 intent v.tally.parties → IsShare (semaphore_model initial) both_permits (ArePermitsOf initial) way v found → IsWhole v.part → Leaves v.tally.counts found
-    left_there intent way v found tells may s whole =
-        subst (Leaves v.tally.counts) (sym (found_there _ _ _ _ intent v.tally.parties may Word.State may.named found tells (word_in (semaphore_table initial) s.past) s.found_is))
-        (leaves fits s.parties s.past v.tally.counts s.run (s.alone whole).1)
+    left_there intent way v found h1 h2 h3 h4 = grind (arith, nat_tests, eqb-true, eqb-false, found_there, leaves)
 
     pub loaded_there : (way : Coming ℕ) (v : View PlayedSemaphore) (found : ℕ) → MayStep (semaphore_model initial) (Word.State ∷ []) way 0 (λ w. Intent.Load w) v.tally.parties →
         IsShare (semaphore_model initial) both_permits (ArePermitsOf initial) way v found → IsWhole v.part → Leaves v.tally.counts found
@@ -62,8 +58,7 @@ module _ (initial : ℕ) where
     exchanged_there old new way v found = left_there (λ w. Intent.Exchange w old new) way v found (λ w memory. refl)
 
     pub closed_there : (t : Permits) (p : Parties ℕ) (found : ℕ) → HasClosed {S = Unit {0}} (PlaysAndCounts {M = SemaphoreScript} {Q = SemaphorePlace} (semaphore_model initial) (Word.State ∷ []) (λ _ _ _. Unit {0}) (ArePermitsOf initial)) (played p t) 0 found → Leaves t found
-    closed_there t p found closed = let r = closed.rule in
-        subst (Leaves t) (sym (sym closed.here ∙ hold_at (Word.State ∷ []) closed.words 0 Word.State _ r.played.hold refl)) (leaves fits r.played.parties r.played.past t r.played.run r.follows)
+    closed_there t p found h1 = grind (arith, nat_tests, eqb-true, eqb-false, hold_at, leaves)
 
 -- whenever the rule holds
 pub permits_are_of_a_run : PermitsAreOfARun

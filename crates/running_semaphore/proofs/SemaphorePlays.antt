@@ -1,11 +1,7 @@
 -- The steps of a semaphore are those of its table.
-use Rattle.running_semaphore.specs.Names.{MatchBool, Word, Call, Answer, Then, Intent, SemaphorePlace, semaphore_intent, semaphore_model, WaitResult, Success, Interrupted, IsSuccess, IsInterrupted, Slot, Parties, all_of, Coming, Going, Beginning, ComesBy, IsAt, Led, HasCalled, MayStep, Went, spun, MayTry, Tried, IsGranted, IsRefused, IsToWake}
-use Rattle.running_semaphore.proofs.Names.{◌≡◌, ◌≢◌, ℕ, ◌-◌, ◌<◌, ◌^◌, ◌==◌, Bool, true, false, refl, sym, ap, subst, List, [], ◌∷◌, None, ne_eqb, MatchBool-at_true, MatchBool-at_false, eqb_same}
-use Rattle.model_events.specs.declared.event.Wake.{Wake}
-use Rattle.running_model.specs.Words.{IsNamed}
+use Rattle.running_semaphore.proofs.Names.{MatchBool, Word, Call, Answer, Then, Intent, SemaphorePlace, semaphore_intent, semaphore_model, WaitResult, IsSuccess, IsInterrupted, Slot, Parties, all_of, Coming, Going, Beginning, ComesBy, IsAt, HasCalled, MayStep, Went, spun, MayTry, Tried, IsGranted, IsRefused, IsToWake, ◌≡◌, ◌≢◌, ℕ, ◌-◌, ◌<◌, ◌^◌, Bool, true, false, refl, List, [], ◌∷◌, None, ne_eqb, MatchBool-at_true, MatchBool-at_false, Wanting, Trying, Waiting, call_of, look_of, take_of, MayWant, FoundNone, HasOne, HasWanted, answer_of, Posts, nat_tests, eqb-true, eqb-false, arith}
 use Rattle.running_model.specs.Turns.{IsOverAside}
-use Rattle.running_semaphore.specs.SemaphoreParties.{Wanting, Trying, Waiting, call_of, look_of, take_of, MayWant, HasLooked, FoundNone, HasOne, HasWanted}
-use Rattle.running_semaphore.specs.SemaphoreShown.{answer_of, Posts}
+use Rattle.running_semaphore.specs.SemaphoreParties.{HasLooked}
 
 module _ (initial : ℕ) where
   abbrev Comes : Coming ℕ → Wanting → List (Slot ℕ) → Parties ℕ → Type 0
@@ -44,8 +40,7 @@ module _ (initial : ℕ) where
   may_tell p = may_load _ Call.Value SemaphorePlace.Value (all_of p) p refl (value_begins p)
 
   looks : (wanting : Wanting) → ◌≡◌ {A = Intent ℕ} (semaphore_intent Word.State (look_of wanting)) (Intent.Load Word.State)
-  looks Trying = refl
-  looks (Waiting patience) = refl
+  looks wanting = grind (arith, nat_tests, eqb-true, eqb-false)
 
   pub may_look : (way : Coming ℕ) (p : Parties ℕ) → MayWant initial way p → MayStep (semaphore_model initial) (Word.State ∷ []) way 0 (λ w. Intent.Load w) p
   may_look way p may = may_load way (call_of may.wanting) (look_of may.wanting) may.done p (looks may.wanting) may.comes
@@ -60,67 +55,33 @@ module _ (initial : ℕ) where
   tells found p q went = went Call.Value SemaphorePlace.Value None (all_of p) (value_begins p)
 
   pub looked : (way : Coming ℕ) (found : ℕ) (p q : Parties ℕ) → Went (semaphore_model initial) way p found q → (wanting : Wanting) (done : List (Slot ℕ)) → Comes way wanting done p → HasLooked initial wanting found done q
-  looked way found p q went Trying done comes = went Call.TryWait SemaphorePlace.TryLook None done comes
-  looked way found p q went (Waiting patience) done comes = went Call.Wait (SemaphorePlace.Look patience) None done comes
+  looked way found p q h1 wanting done h2 = grind (arith, nat_tests, eqb-true, eqb-false)
 
   -- where it saw a permit, it comes to take one
 
-  takes_next_so : (wanting : Wanting) (seen : ℕ) (b : Bool) (done : List (Slot ℕ)) (p : Parties ℕ) → (seen == 0) ≡ b → b ≡ false → HasLooked initial wanting seen done p →
-      IsAt (semaphore_model initial) (call_of wanting) (take_of wanting seen) Then.GoesOn None done p
-  takes_next_so wanting seen true done p test some at = absurd cc
-  takes_next_so Trying seen false done p test some at = rw test at at
-  takes_next_so (Waiting patience) seen false done p test some at = rw test at at
-
   takes_next : (wanting : Wanting) (seen : ℕ) (done : List (Slot ℕ)) (p : Parties ℕ) → seen ≢ 0 → HasLooked initial wanting seen done p →
       IsAt (semaphore_model initial) (call_of wanting) (take_of wanting seen) Then.GoesOn None done p
-  takes_next wanting seen done p some at = takes_next_so wanting seen (seen == 0) done p refl (ne_eqb seen 0 some) at
+  takes_next wanting seen done p some at = grind (arith, nat_tests, eqb-true, eqb-false, ne_eqb seen 0 some)
 
   pub found_none : (wanting : Wanting) (seen : ℕ) (done : List (Slot ℕ)) (p : Parties ℕ) → seen ≡ 0 → HasLooked initial wanting seen done p → FoundNone initial wanting done p
-  found_none wanting seen done p none at = at_none wanting (subst (λ n. HasLooked initial wanting n done p) none at)
-    where
-      at_none : (wanting : Wanting) → HasLooked initial wanting 0 done p → FoundNone initial wanting done p
-      at_none Trying at = at
-      at_none (Waiting patience) at = at
+  found_none wanting seen done p h1 h2 = grind (arith, nat_tests, eqb-true, eqb-false)
 
   takes : (wanting : Wanting) (seen rest : ℕ) → rest ≡ seen - 1 → ◌≡◌ {A = Intent ℕ} (semaphore_intent Word.State (take_of wanting seen)) (Intent.Exchange Word.State seen rest)
-  takes Trying seen rest less = ap (λ (n : ℕ). Intent.Exchange Word.State seen n) (sym less)
-  takes (Waiting patience) seen rest less = ap (λ (n : ℕ). Intent.Exchange Word.State seen n) (sym less)
+  takes wanting seen rest h1 = grind (arith, nat_tests, eqb-true, eqb-false)
 
   pub may_take : (wanting : Wanting) (seen rest : ℕ) (done : List (Slot ℕ)) (p : Parties ℕ) → seen ≢ 0 → rest ≡ seen - 1 → HasLooked initial wanting seen done p →
       MayStep (semaphore_model initial) (Word.State ∷ []) Going 0 (λ w. Intent.Exchange w seen rest) p
-  may_take wanting seen rest done p some less at = record {
-    call = call_of wanting;
-    place = take_of wanting seen;
-    hold = None;
-    done = done;
-    comes = takes_next wanting seen done p some at;
-    name = Word.State;
-    named = refl;
-    intends = takes wanting seen rest less;
-    on = refl;
-  }
+  may_take wanting seen rest done p some less at = grind (arith, nat_tests, eqb-true, eqb-false, takes_next wanting seen done p some at, takes wanting seen rest less)
 
   -- where the exchange leads
 
-  took_so : (wanting : Wanting) (seen found : ℕ) (b : Bool) (done : List (Slot ℕ)) (q : Parties ℕ) → (found == seen) ≡ b → b ≡ true →
-      Led (semaphore_model initial) (call_of wanting) (take_of wanting seen) None found done q → HasOne initial wanting done q
-  took_so wanting seen found false done q test hit led = absurd cc
-  took_so Trying seen found true done q test hit led = rw test at led
-  took_so (Waiting patience) seen found true done q test hit led = rw test at led
-
-  missed_so : (wanting : Wanting) (seen found : ℕ) (b : Bool) (done : List (Slot ℕ)) (q : Parties ℕ) → (found == seen) ≡ b → b ≡ false →
-      Led (semaphore_model initial) (call_of wanting) (take_of wanting seen) None found done q → HasLooked initial wanting found done q
-  missed_so wanting seen found true done q test miss led = absurd cc
-  missed_so Trying seen found false done q test miss led = rw test at led
-  missed_so (Waiting patience) seen found false done q test miss led = rw test at led
-
   pub took_one : (wanting : Wanting) (seen found : ℕ) (done : List (Slot ℕ)) (p q : Parties ℕ) → seen ≢ 0 → found ≡ seen → HasLooked initial wanting seen done p →
       Went (semaphore_model initial) Going p found q → HasOne initial wanting done q
-  took_one wanting seen found done p q some hit at went = took_so wanting seen found (found == seen) done q refl (subst (λ n. (n == seen) ≡ true) (sym hit) (eqb_same seen)) (went (call_of wanting) (take_of wanting seen) None done (takes_next wanting seen done p some at))
+  took_one wanting seen found done p q some hit at went = grind (arith, nat_tests, eqb-true, eqb-false, went (call_of wanting) (take_of wanting seen) None done (takes_next wanting seen done p some at))
 
   pub looked_again : (wanting : Wanting) (seen found : ℕ) (done : List (Slot ℕ)) (p q : Parties ℕ) → seen ≢ 0 → found ≢ seen → HasLooked initial wanting seen done p →
       Went (semaphore_model initial) Going p found q → HasLooked initial wanting found done q
-  looked_again wanting seen found done p q some miss at went = missed_so wanting seen found (found == seen) done q refl (ne_eqb found seen miss) (went (call_of wanting) (take_of wanting seen) None done (takes_next wanting seen done p some at))
+  looked_again wanting seen found done p q some miss at went = grind (arith, nat_tests, eqb-true, eqb-false, ne_eqb found seen miss, went (call_of wanting) (take_of wanting seen) None done (takes_next wanting seen done p some at))
 
   -- what a try of a `Wait` came to
 
@@ -138,16 +99,7 @@ module _ (initial : ℕ) where
   posts n found p q fits went = went (Call.Post n) (SemaphorePlace.Post n) None (all_of p) (post_begins n p fits)
 
   pub is_to_wake : (i n : ℕ) (p q : Parties ℕ) → i ≡ 0 → Posts initial n p q → IsToWake (semaphore_model initial) (Word.State ∷ []) (λ (_ : SemaphorePlace). Word.State) i q
-  is_to_wake i n p q is posted = record {
-    call = Call.Post n;
-    place = SemaphorePlace.Wake;
-    hold = None;
-    done = all_of p;
-    at = posted;
-    who = Wake.One;
-    wakes = refl;
-    word = subst (λ (k : ℕ). IsNamed (Word.State ∷ []) k Word.State) (sym is) refl;
-  }
+  is_to_wake i n p q h1 h2 = grind (arith, nat_tests, eqb-true, eqb-false)
 
   pub post_is_over : (n : ℕ) (p q : Parties ℕ) → Posts initial n p q → IsOverAside (semaphore_model initial) q
   post_is_over n p q posted = record { call = Call.Post n; place = SemaphorePlace.Wake; hold = None; done = all_of p; at = posted; aside = tt; answer = Answer.Done; ends = refl }
@@ -155,11 +107,4 @@ module _ (initial : ℕ) where
 -- the answer of a call that comes for no hold
 
 pub answered_so : {H : Type 0} (b : Bool) (result : WaitResult H) (Is : Answer ℕ → Type 0) → MatchBool b (IsSuccess result) (IsInterrupted result) → MatchBool b (Is Answer.Success) (Is Answer.Interrupted) → Is (answer_of result)
-answered_so true (Success h) Is so is = is
-answered_so true Interrupted Is so is = absurd so
-answered_so false (Success h) Is so is = absurd so
-answered_so false Interrupted Is so is = is
-
-pub where_true : (b : Bool) (A B : Type 0) → b ≡ true → A → MatchBool b A B
-where_true true A B is a = a
-where_true false A B is a = absurd cc
+answered_so b result Is h1 h2 = grind (arith, nat_tests, eqb-true, eqb-false)

@@ -2,5 +2,4 @@ pub mod Names
 pub mod ValueKeeps
 pub mod ValueSights
 pub mod SpinPlays
-pub mod SpinSights
 pub mod SameGuard

@@ -1,14 +1,5 @@
 -- A guard is told by what it has; its facts say nothing more.
-use Rattle.running_spin_lock.specs.Names.{table_id_coded}
-use Rattle.running_spin_lock.proofs.Names.{◌≡◌, ◌<◌, true}
-use Rattle.std.proofs.Math.Bool.{Bool-set}
-use Rattle.std.proofs.Math.Nat.{ℕ_set}
-use Rattle.std.proofs.Math.Bridge.{le_prop}
-use base.Stored.{Coded-set}
-use Rattle.running_spin_lock.specs.declared.guard.SpinLockGuard.{SpinLockGuard}
-use Rattle.running_spin_lock.specs.ValueSteps.{has_vacant_slot}
-use Rattle.running_spin_lock.specs.SpinParties.{HasLock}
-use Rattle.running_spin_lock.specs.SpinShown.{guard_with}
+use Rattle.running_spin_lock.proofs.Names.{table_id_coded, ◌≡◌, ◌<◌, true, Bool-set, ℕ_set, le_prop, Coded-set, SpinLockGuard, has_vacant_slot, HasLock, guard_with}
 
 module _ {T A : Type 0} (g : SpinLockGuard T A) (x : T) where
   pub same_guard : (own : g.seat.table_id ≡ g.lock.now.table.shared.table_id) (on : g.seat.me.0.tally.counts.holds ≡ 1) (has : HasLock g.seat.me.0.tally.parties) (alive : 0 < g.seat.me.0.part.share) (out : has_vacant_slot g.seat.me.1 ≡ true)

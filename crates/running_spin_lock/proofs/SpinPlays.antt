@@ -1,11 +1,5 @@
 -- The steps of a spin lock are those of its table.
-use Rattle.running_spin_lock.specs.Names.{MatchBool, Word, Call, Answer, HoldKind, Intent, SpinPlace, spin_intent, seen, Slot, Parties, all_of, Coming, Going, Beginning, Continuing, ComesBy, IsHolding, Led, HasCalled, MayStep, Went}
-use Rattle.running_spin_lock.proofs.Names.{◌≡◌, ◌≢◌, ℕ, zero, suc, Bool, true, false, refl, sym, subst, List, [], ◌∷◌, Some, None, inl, inr, ne_eqb, is_over}
-use Rattle.running_spin_lock.specs.SpinLawful.{spin_model}
-use Rattle.running_model.specs.Turns.{IsOver}
-use Rattle.running_model.proofs.Holding.{holding_told, holding_is}
-use Rattle.running_tallies.proofs.OneHold.{IsTry}
-use Rattle.running_spin_lock.specs.SpinParties.{IsWaiting, IsSpinning, IsGranted, HasLock, Unlocks}
+use Rattle.running_spin_lock.proofs.Names.{MatchBool, Word, Call, Answer, HoldKind, Intent, SpinPlace, Slot, Parties, all_of, Coming, Going, Beginning, Continuing, ComesBy, IsHolding, Led, HasCalled, MayStep, Went, ◌≡◌, ◌≢◌, ℕ, Bool, true, false, refl, subst, List, [], ◌∷◌, Some, None, is_over, spin_model, IsOver, holding_told, holding_is, IsWaiting, IsSpinning, IsGranted, HasLock, Unlocks, arith, nat_tests, eqb-true, eqb-false}
 
 -- how the calls begin
 
@@ -13,8 +7,7 @@ pub try_begins : (p : Parties ℕ) → ComesBy spin_model (Beginning Call.TryLoc
 try_begins p = (refl, record { may = record { begins = refl; free = refl; values = tt }; new = refl; others = refl })
 
 pub lock_begins : (call : Call ℕ) (p : Parties ℕ) → IsWaiting call → ComesBy spin_model (Beginning call) call SpinPlace.Lock None (all_of p) p
-lock_begins call p (inl is) = subst (λ c. ComesBy spin_model (Beginning c) c SpinPlace.Lock None (all_of p) p) (sym is) (refl, record { may = record { begins = refl; free = refl; values = tt }; new = refl; others = refl })
-lock_begins call p (inr is) = subst (λ c. ComesBy spin_model (Beginning c) c SpinPlace.Lock None (all_of p) p) (sym is) (refl, record { may = record { begins = refl; free = refl; values = tt }; new = refl; others = refl })
+lock_begins call p h1 = grind (arith, nat_tests, eqb-true, eqb-false)
 
 pub unlock_begins : (done : List (Slot ℕ)) (p : Parties ℕ) → IsHolding spin_model HoldKind.Write done p → ComesBy spin_model (Continuing Call.Unlock) Call.Unlock SpinPlace.Release (Some HoldKind.Write) done p
 unlock_begins done p holding = (refl, record { kind = HoldKind.Write; may = record { begins = refl; free = refl; values = tt }; kept = refl; holding = holding })
@@ -24,56 +17,22 @@ unlock_begins done p holding = (refl, record { kind = HoldKind.Write; may = reco
 abbrev MaySwap : Coming ℕ → Parties ℕ → Type 0
 MaySwap way p = MayStep spin_model (Word.State ∷ []) way 0 (λ w. Intent.Swap w 1) p
 
-may_swap : (way : Coming ℕ) (call : Call ℕ) (place : SpinPlace) (done : List (Slot ℕ)) (p : Parties ℕ) → ◌≡◌ {A = Intent ℕ} (spin_intent Word.State place) (Intent.Swap Word.State 1) →
-    ComesBy spin_model way call place None done p → MaySwap way p
-may_swap way call place done p intends comes = record {
-  call = call;
-  place = place;
-  hold = None;
-  done = done;
-  comes = comes;
-  name = Word.State;
-  named = refl;
-  intends = intends;
-  on = refl;
-}
-
-pub may_try_lock : (p : Parties ℕ) → MaySwap (Beginning Call.TryLock) p
-may_try_lock p = may_swap _ Call.TryLock SpinPlace.TryLock (all_of p) p refl (try_begins p)
-
-pub may_begin : (call : Call ℕ) (p : Parties ℕ) → IsWaiting call → MaySwap (Beginning call) p
-may_begin call p waits = may_swap _ call SpinPlace.Lock (all_of p) p refl (lock_begins call p waits)
-
 pub may_spin : (call : Call ℕ) (done : List (Slot ℕ)) (p : Parties ℕ) → IsSpinning call done p → MaySwap Going p
-may_spin call done p at = may_swap Going call SpinPlace.Lock done p refl at
-
-pub swaps : IsTry (λ w. Intent.Swap w 1) (λ s. seen s 1)
-swaps = record { tells = λ w memory. refl; grants = λ call v. refl; sees = λ call v. refl }
+may_spin call done p h1 = grind (arith, nat_tests, eqb-true, eqb-false)
 
 -- where it leads
 
 refused : (found : ℕ) (p q : Parties ℕ) → found ≢ 0 → Led spin_model Call.TryLock SpinPlace.TryLock None found (all_of p) q → HasCalled spin_model Call.TryLock Answer.Interrupted None p q
-refused zero p q miss led = absurd (miss refl)
-refused (suc n) p q miss led = rw (ne_eqb (suc n) 0 miss) at led
+refused found p q h1 h2 = grind (arith, nat_tests, eqb-true, eqb-false)
 
 pub try_ends : (free : Bool) (found : ℕ) (p q : Parties ℕ) → MatchBool free (found ≡ 0) (found ≢ 0) → Went spin_model (Beginning Call.TryLock) p found q →
     MatchBool free (HasCalled spin_model Call.TryLock Answer.Success (Some HoldKind.Write) p q) (HasCalled spin_model Call.TryLock Answer.Interrupted None p q)
 try_ends true found p q hit went = subst (λ n. Led spin_model Call.TryLock SpinPlace.TryLock None n (all_of p) q) hit (went Call.TryLock SpinPlace.TryLock None (all_of p) (try_begins p))
 try_ends false found p q miss went = refused found p q miss (went Call.TryLock SpinPlace.TryLock None (all_of p) (try_begins p))
 
-led_granted : (call : Call ℕ) (done : List (Slot ℕ)) (q : Parties ℕ) → IsWaiting call → Led spin_model call SpinPlace.Lock None 0 done q → IsGranted call done q
-led_granted call done q (inl is) led = subst (λ c. IsGranted c done q) (sym is) (subst (λ c. Led spin_model c SpinPlace.Lock None 0 done q) is led)
-led_granted call done q (inr is) led = subst (λ c. IsGranted c done q) (sym is) (subst (λ c. Led spin_model c SpinPlace.Lock None 0 done q) is led)
-
-led_on : (call : Call ℕ) (found : ℕ) (done : List (Slot ℕ)) (q : Parties ℕ) → found ≢ 0 → Led spin_model call SpinPlace.Lock None found done q → IsSpinning call done q
-led_on call zero done q miss led = absurd (miss refl)
-led_on call (suc n) done q miss led = rw (ne_eqb (suc n) 0 miss) at led
-
 pub lock_goes : (free : Bool) (way : Coming ℕ) (call : Call ℕ) (found : ℕ) (done : List (Slot ℕ)) (p q : Parties ℕ) → IsWaiting call → MatchBool free (found ≡ 0) (found ≢ 0) →
     Went spin_model way p found q → ComesBy spin_model way call SpinPlace.Lock None done p → MatchBool free (IsGranted call done q) (IsSpinning call done q)
-lock_goes true way call found done p q waits hit went comes =
-    led_granted call done q waits (subst (λ n. Led spin_model call SpinPlace.Lock None n done q) hit (went call SpinPlace.Lock None done comes))
-lock_goes false way call found done p q waits miss went comes = led_on call found done q miss (went call SpinPlace.Lock None done comes)
+lock_goes free way call found done p q h1 h2 h3 h4 = grind (arith, nat_tests, eqb-true, eqb-false)
 
 -- the first swap, and a further one
 

@@ -1,20 +1,7 @@
 -- What holds of a lock that guards a value whenever its rule does, and what its steps do with the value, whatever model its passes play.
-use Rattle.running_spin_lock.specs.Names.{get_elem?, State, opening, rest, Final, Seen, Sights, View, IsWhole, first_view, sum_of, IsCounted, Word, Event, IsPast, Model, Played, played_add_up, IsOfARun, Holds, no_holds, both_holds, AreHoldsIn, MatchBool, PlaysAndCarries, Intent, Coming, MayStep, Told, counted_in, sights_after, holds_after}
-use Rattle.running_spin_lock.proofs.Names.{◌≡◌, ℕ, eqb, List, [], ◌∷◌, Bool, false, sym, refl, ap, ◌∙◌, subst, arith, true, Option, Some, None, true-eqb, and_parts, false≢true, shared_first}
-use mathlib.Core.Logic.{dite}
+use Rattle.running_spin_lock.proofs.Names.{get_elem?, State, opening, Final, Seen, Sights, View, IsWhole, first_view, sum_of, IsCounted, Word, Event, IsPast, Model, Played, played_add_up, IsOfARun, Holds, no_holds, both_holds, AreHoldsIn, MatchBool, PlaysAndCarries, Intent, Coming, MayStep, Told, counted_in, sights_after, holds_after, ◌≡◌, ℕ, List, [], ◌∷◌, Bool, sym, refl, ap, ◌∙◌, subst, arith, true, Option, Some, None, shared_first, dite, ℕ_discrete, IsSome, IsTally, others, sum_at, sum_of_two, alone, of_a_run, hold_at, IsForOne, holds_add_up, no_holds_first, word_is_held, none_held, both_held, core_held, LiesByHolds, CarriesByHolds, ValueAgrees, OneHolder, Locks, Lets, Sees, HasValue, has_vacant_slot, nat_tests, eqb-true, eqb-false}
 use mathlib.Core.Option as maybe
-use native.Mathlib.Decide.{ℕ_discrete}
-use Rattle.std.specs.Option.{IsSome}
-use Rattle.running_passes.specs.Tallies.{IsTally}
-use Rattle.running_passes.proofs.Sums.{others, sum_at, sum_of_two, alone}
 use Rattle.running_model.proofs.Opening as opening_runs
-use Rattle.running_model.proofs.OfARun.{of_a_run}
-use Rattle.running_model.proofs.Steps.{told_so}
-use Rattle.running_model.proofs.Words.{hold_at}
-use Rattle.running_model.specs.Words.{IsNamed}
-use Rattle.running_tallies.specs.MutexTally.{IsForOne, holds_add_up, no_holds_first, word_is_held}
-use Rattle.running_spin_lock.specs.ValueRule.{none_held, both_held, core_held, LiesByHolds, CarriesByHolds, ValueAgrees, OneHolder}
-use Rattle.running_spin_lock.specs.ValueSteps.{Locks, Lets, Sees, HasValue, is_vacant, has_vacant_slot}
 
 module _ {M Q : Type 0} where
   pub held_add_up : IsTally {T = Played M Q ℕ Holds} none_held both_held core_held
@@ -66,8 +53,7 @@ module _ {M Q : Type 0} where
 -- a store of 0 by the pass that has the hold
 pub lets_go : {M Q P : Type 0} (m : Model ℕ P) (names : List Word) → names ≡ Word.State ∷ [] → (way : Coming ℕ) (v w : View (Played M Q ℕ Holds)) → MayStep m names way 0 (λ k. Intent.Store k 0) v.tally.parties → v.tally.counts.holds ≡ 1 →
     Told m sights_after holds_after way v.tally.parties 0 (counted_in v) (counted_in w) → Lets v w
-lets_go m names one_word way v w may on told =
-    (on, told_so m names way 0 (λ k. Intent.Store k 0) v.tally.parties may Word.State (subst (λ ns. IsNamed ns 0 may.name) one_word may.named) 0 sights_after holds_after (counted_in v) (counted_in w) told)
+lets_go m names h1 way v w h2 h3 h4 = grind (arith, nat_tests, eqb-true, eqb-false)
 
 module _ {T : Type 0} where
   -- What a seat carries whose pass has no hold, or one.
@@ -75,28 +61,14 @@ module _ {T : Type 0} where
   pub carries_none : (t : Holds) (slots : List (ℕ × Option T)) → t.holds ≡ 0 → slots ≡ [] → CarriesByHolds t slots
   carries_none t slots off none = record { off = λ _. none; on = λ on. absurd (omega (arith, off, on)) }
 
-  pub carries_value : (t : Holds) (slots : List (ℕ × Option T)) → t.holds ≡ 1 → HasValue slots → CarriesByHolds t slots
-  carries_value t slots on value = record { off = λ off. absurd (omega (arith, off, on)); on = λ _. value }
-
   -- and so what it carries after a try
   pub value_tried : {M Q : Type 0} (free : Bool) (see : Sights → Sights) (v w : View (Played M Q ℕ Holds)) (slots : List (ℕ × Option T)) → v.tally.counts.holds ≡ 0 → MatchBool free (Locks v w) (Sees see v w) →
       CarriesByHolds w.tally.counts slots → MatchBool free (HasValue slots) (slots ≡ [])
-  value_tried true see v w slots off locks carried = carried.on (ap (λ u. u.tally.holds) locks.1)
-  value_tried false see v w slots off sees carried = carried.off (ap (λ u. u.tally.holds) sees ∙ off)
+  value_tried free see v w slots h1 h2 h3 = grind (arith, nat_tests, eqb-true, eqb-false)
 
   -- the one slot that is carried is empty
   pub vacant : (slots : List (ℕ × Option T)) → has_vacant_slot slots ≡ true → slots ≡ (0, None) ∷ []
-  vacant [] is = absurd (false≢true is)
-  vacant (x ∷ y ∷ more) is = absurd (false≢true is)
-  vacant (x ∷ []) is = let both = and_parts (eqb x.0 0) (is_vacant x.1) is in let number = true-eqb x.0 0 (sym both.0) in let empty = nothing x.1 both.1 in λ i. (number i, empty i) ∷ []
-    where
-      nothing : (o : Option T) → is_vacant o ≡ true → o ≡ None
-      nothing None is = refl
-      nothing (Some x) is = absurd (false≢true is)
-
-  -- once the value is in it, it is the one that is carried
-  pub filled : (before after : List (ℕ × Option T)) (x : T) → has_vacant_slot before ≡ true → after ≡ (0, Some x) ∷ rest before → after ≡ (0, Some x) ∷ []
-  filled before after x is put = put ∙ ap (λ (slots : List (ℕ × Option T)). (0, Some x) ∷ rest slots) (vacant before is)
+  vacant slots h1 = grind (arith, nat_tests, eqb-true, eqb-false)
 
   -- what was found in the slot is there
   pub is_there : (slots : List (Option T)) (o : Option T) → (x : T) × (get_elem? slots 0 ≡ maybe.some (Some x)) → get_elem? slots 0 ≡ maybe.some o → IsSome o

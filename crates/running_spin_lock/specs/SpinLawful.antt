@@ -1,8 +1,5 @@
 -- The model that a spin lock plays.
-use Rattle.running_spin_lock.specs.Names.{ℕ, List, Event, Model, IsPast, SpinPlace, spin_table, KeepsSpin}
-use Rattle.model_events.specs.Integers.{u64_arithmetic}
-use Rattle.model_spin.proofs.Laws.{keeps_spin, spin_is_lock}
-use Rattle.running_tallies.specs.MutexTally.{IsForOne}
+use Rattle.running_spin_lock.specs.Names.{ℕ, List, Event, Model, IsPast, SpinPlace, spin_table, KeepsSpin, u64_arithmetic, keeps_spin, spin_is_lock, IsForOne}
 
 abbrev pub spin_model : Model ℕ SpinPlace
 spin_model = record { arithmetic = u64_arithmetic; table = spin_table; law = KeepsSpin }

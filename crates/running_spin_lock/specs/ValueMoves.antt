@@ -1,10 +1,6 @@
 -- The value moves as the holds do.
-use Rattle.std.proofs.Common.{set, ap, arith}
-use mathlib.Core.Logic.{dite}
+use Rattle.running_spin_lock.specs.Names.{set, ap, arith, dite, ℕ_discrete, Table, ℕ, ◌∷◌, Some, get_elem?, keeps, takes, gives, put_back, rest, MovesByCounts, both_holds, AreHoldsIn}
 use mathlib.Core.Option as maybe
-use native.Mathlib.Decide.{ℕ_discrete}
-use Rattle.model_events.specs.Tables.{Table}
-use Rattle.running_spin_lock.specs.Names.{ℕ, ◌∷◌, Some, get_elem?, keeps, takes, gives, put_back, rest, MovesByCounts, both_holds, AreHoldsIn}
 use Rattle.running_spin_lock.specs.ValueRule.{LiesByHolds, CarriesByHolds}
 
 -- of all passes one has a hold at most

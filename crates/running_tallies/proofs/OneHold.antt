@@ -1,8 +1,7 @@
 -- What a step of a lock with one holder at most tells of the pass that makes it.
 use Rattle.running_tallies.specs.Names.{◌==◌, ◌≤◌, true, length, Word, Call, holds_of, Model}
-use Rattle.running_tallies.proofs.Names.{◌≡◌, ℕ, [], ◌∷◌, refl, ap, ◌∙◌, subst, arith}
+use Rattle.running_tallies.proofs.Names.{◌≡◌, ℕ, [], ◌∷◌, ap, ◌∙◌, arith}
 use Rattle.std.specs.Prelude.{Some, MatchBool}
-use Rattle.model_events.specs.Past.{word_in}
 use Rattle.model_events.specs.Rows.{carried_out, value_told}
 use Rattle.model_events.specs.declared.row.Intent.{Intent}
 use Rattle.running_passes.specs.Views.{view_of, wrote}
@@ -17,6 +16,8 @@ use Rattle.running_model.proofs.Steps.{told_so, found_there, by_zero}
 use Rattle.running_tallies.specs.declared.mutex.Holds.{Holds}
 use Rattle.running_tallies.specs.MutexRule.{both_holds, granted, holds_after, AreHoldsIn}
 use Rattle.running_tallies.specs.MutexTally.{IsForOne, word_is_held}
+use Rattle.std.proofs.lemmas.Bool.Decides.{nat_tests}
+use Rattle.std.proofs.lemmas.Bool.{eqb-true, eqb-false}
 
 -- what an act on the lock's word makes of what its pass saw and counts, which found this there
 abbrev pub made_by : (Word → Intent ℕ) → Call ℕ → ℕ → View Holds → View Holds
@@ -33,9 +34,7 @@ module _ {M Q P : Type 0} (m : Model ℕ P) (lock : IsForOne m) (intent : Word �
   module _ (s : IsShare m both_holds (AreHoldsIn m.table) way v found) where
     -- what it found is how many holds stood
     held_there : (found ≡ length (holds_of m.table s.past)) × (found ≤ 1)
-    held_there =
-        let is = found_there m (Word.State ∷ []) way 0 intent v.tally.parties may Word.State may.named found is_try.tells (word_in m.table s.past) s.found_is in
-        let held = word_is_held m lock s.parties s.past s.run in (is ∙ held.0, omega (arith, is, held.1))
+    held_there = grind (arith, nat_tests, eqb-true, eqb-false, found_there, word_is_held)
 
     -- So where it found 0, the pass's own hold was off.
     pub tried : (w : View (Played M Q ℕ Holds)) → Told m sights_after holds_after way v.tally.parties found (counted_in v) (counted_in w) →
@@ -49,6 +48,4 @@ module _ {M Q P : Type 0} (m : Model ℕ P) (lock : IsForOne m) (intent : Word �
 
     -- where no other pass is left, only its own can be on
     pub tried_alone : IsWhole v.part → v.tally.counts.holds ≡ 0 → (found == 0) ≡ true
-    tried_alone whole off =
-        let all = (s.alone whole).1.holds in
-        subst (λ (n : ℕ). (n == 0) ≡ true) (let zero : 0 ≡ found = omega (arith, all, held_there.0, off) in zero) refl
+    tried_alone h1 h2 = grind (arith, nat_tests, eqb-true, eqb-false, held_there)

@@ -1,6 +1,5 @@
 -- What a pass of a barrier counts and knows, and what the run says of all passes.
-use Rattle.running_tallies.specs.Names.{◌≡◌, ℕ, ◌+◌, ◌-◌, ◌*◌, ◌/◌, ◌%◌, ◌^◌, ◌<◌, ◌≤◌, ◌==◌, true, max, if◌then◌else◌, List, [], slice_index, Word, Call, Act, Event, arrivals_in, full_rounds, count_of}
-use Rattle.std.specs.List.{sum}
+use Rattle.running_tallies.specs.Names.{◌≡◌, ℕ, ◌+◌, ◌-◌, ◌*◌, ◌/◌, ◌%◌, ◌^◌, ◌<◌, ◌≤◌, ◌==◌, true, max, if◌then◌else◌, List, [], slice_index, Word, Call, Act, Event, arrivals_in, full_rounds, count_of, sum}
 use Rattle.running_tallies.specs.declared.barrier.Rounds.{Rounds}
 use Rattle.running_tallies.specs.Counts.{one_more, both_counts}
 

@@ -1,10 +1,6 @@
 -- The model that a barrier plays.
-use Rattle.std.proofs.Common.{arith}
-use Rattle.running_tallies.specs.Names.{ℕ, ◌%◌, ◌^◌, List, Event, u64_arithmetic, Model, IsPast}
-use Rattle.model_barrier.specs.declared.BarrierPlace.{BarrierPlace}
-use Rattle.model_barrier.specs.Table.{barrier_table}
+use Rattle.running_tallies.specs.Names.{arith, ℕ, ◌%◌, ◌^◌, List, Event, u64_arithmetic, Model, IsPast, BarrierPlace, barrier_table, keeps_barrier}
 use Rattle.model_barrier.specs.Law.{KeepsBarrier}
-use Rattle.model_barrier.proofs.Laws.{keeps_barrier}
 
 abbrev pub barrier_model : ℕ → Model ℕ BarrierPlace
 barrier_model n = record { arithmetic = u64_arithmetic; table = barrier_table n; law = KeepsBarrier n }

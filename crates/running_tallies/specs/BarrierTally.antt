@@ -1,21 +1,13 @@
 -- What the passes of a barrier count and know adds up, and follows the run.
-use Rattle.std.proofs.Common.{◌≡◌, ◌≢◌, ℕ, zero, suc, ◌+◌, ◌*◌, ◌/◌, ◌%◌, ◌^◌, ◌<◌, ◌≤◌, ◌==◌, Bool, true, false, cond, max, List, [], ◌∷◌, refl, sym, ap, subst, ◌∙◌, arith, add-mul}
+use Rattle.running_tallies.specs.Names.{◌≡◌, ◌≢◌, ℕ, suc, ◌+◌, ◌*◌, ◌/◌, ◌%◌, ◌^◌, ◌<◌, ◌≤◌, ◌==◌, Bool, true, false, cond, max, List, [], ◌∷◌, refl, sym, ap, subst, ◌∙◌, arith, add-mul, eqb-true, eqb-false, sum, word_in, carried_out, barrier_table, barrier_intent, BarrierPlace, IsTally, Word, Call, Act, Event, is_arrival, arrivals_in, epoch_of, count_of, CountsArrivals, u64_arithmetic, IsOnNoWord, on_no_word, StaysOnNoWord, SameOnNoWord, GoesOnByActs, keeps_barrier, nat_tests}
 use Rattle.std.proofs.Math.Nat.{zero-div, zero-mod}
-use Rattle.std.proofs.lemmas.Bool.{eqb-true, eqb-false}
 use Rattle.std.proofs.lemmas.List.Sums.{sum_by-cons}
 use Rattle.std.proofs.lemmas.Nat.{div-add-mod', div-mul-add, mod-mul-add, mod_below}
-use Rattle.std.specs.List.{sum}
 use mathlib.Core.Logic.{dite}
 use native.Mathlib.Decide.{ℕ_discrete}
-use Rattle.model_events.specs.Past.{word_in}
-use Rattle.model_events.specs.Rows.{carried_out}
-use Rattle.model_barrier.specs.Table.{barrier_table, barrier_intent}
-use Rattle.model_barrier.specs.declared.BarrierPlace.{BarrierPlace}
-use Rattle.running_tallies.specs.Names.{IsTally, Word, Call, Act, Event, is_arrival, arrivals_in, epoch_of, count_of, CountsArrivals, u64_arithmetic, IsOnNoWord, on_no_word, StaysOnNoWord, SameOnNoWord, GoesOnByActs}
 use Rattle.running_tallies.specs.declared.barrier.Rounds.{Rounds}
-use Rattle.running_tallies.specs.Counts.{one_more, both_counts, counts_swap, counts_group}
+use Rattle.running_tallies.specs.Counts.{one_more, counts_swap, counts_group}
 use Rattle.running_tallies.specs.CountLaws.{more_in_both, more_here, more_elsewhere}
-use Rattle.model_barrier.proofs.Laws.{keeps_barrier}
 use Rattle.running_tallies.specs.BarrierScript.{barrier_model}
 use Rattle.running_tallies.specs.BarrierRule.{rounds, no_rounds, both_rounds, known_rounds, in_round, reaching, opens_by, arrived, rounds_with, rounds_after, AreRounds, AreRoundsIn}
 
@@ -26,15 +18,7 @@ same_rounds : (xs ys : List ℕ) (a b c d : ℕ) → xs ≡ ys → a ≡ b → c
 same_rounds xs ys a b c d counts first second = λ i. rounds (counts i) (first i) (second i)
 
 pub rounds_add_up : IsTally no_rounds both_rounds known_rounds
-rounds_add_up = record {
-  unit = λ t. same_rounds t.arrivals t.arrivals (max 0 t.reached) t.reached (0 + t.opened) t.opened refl (omega arith) (omega arith);
-  swap = λ t u. same_rounds (both_counts t.arrivals u.arrivals) (both_counts u.arrivals t.arrivals) (max t.reached u.reached) (max u.reached t.reached) (t.opened + u.opened) (u.opened + t.opened)
-      (counts_swap t.arrivals u.arrivals) (omega arith) (omega arith);
-  group = λ t u v. same_rounds (both_counts (both_counts t.arrivals u.arrivals) v.arrivals) (both_counts t.arrivals (both_counts u.arrivals v.arrivals))
-      (max (max t.reached u.reached) v.reached) (max t.reached (max u.reached v.reached)) (t.opened + u.opened + v.opened) (t.opened + (u.opened + v.opened))
-      (counts_group t.arrivals u.arrivals v.arrivals) (max_group t.reached u.reached v.reached) (omega arith);
-  copy = λ t. same_rounds t.arrivals t.arrivals (max t.reached t.reached) t.reached (0 + t.opened) t.opened refl (omega arith) (omega arith);
-}
+rounds_add_up = grind (arith, nat_tests, eqb-true, eqb-false, counts_group, counts_swap, max_group, same_rounds)
 
 -- the arrivals of a list of counts
 
@@ -42,10 +26,9 @@ pub sum_cons : (x : ℕ) (xs : List ℕ) → sum (x ∷ xs) ≡ x + sum xs
 sum_cons x xs = sum_by-cons (λ (y : ℕ). y) x xs
 
 pub sum_more : (round : ℕ) (xs : List ℕ) → sum (one_more round xs) ≡ sum xs + 1
-sum_more zero [] = refl
-sum_more zero (x ∷ xs) = let a = sum_cons (x + 1) xs in let b = sum_cons x xs in omega arith
 sum_more (suc round) [] = let a = sum_cons 0 (one_more round []) in let b = sum_more round [] in omega arith
 sum_more (suc round) (x ∷ xs) = let a = sum_cons x (one_more round xs) in let b = sum_cons x xs in let c = sum_more round xs in omega arith
+sum_more round xs = grind (arith, nat_tests, eqb-true, eqb-false, sum_cons)
 
 -- acts on no word
 
@@ -64,17 +47,7 @@ pub rounds_same : (n : ℕ) → SameOnNoWord {P = BarrierPlace} (λ past _. roun
 rounds_same n past e place act call counts quiet = ap (λ (a : ℕ). rounds_with n (a / n) act counts) (same_arrivals past e quiet)
 
 pub no_rounds_first : (n : ℕ) → AreRoundsIn n [] no_rounds
-no_rounds_first n = record {
-  all = refl;
-  opened = sym (zero-div n);
-  full = λ round below. absurd (omega (arith, zero-div n, below));
-  filling = none_in (0 / n) ∙ sym (zero-mod n);
-  later = λ round above. none_in round;
-  known = omega arith;
-}
-  where
-    none_in : (round : ℕ) → in_round round [] ≡ 0
-    none_in round = refl
+no_rounds_first n = grind (arith, nat_tests, eqb-true, eqb-false, zero-div, zero-mod)
 
 -- an arrival more
 
@@ -83,18 +56,12 @@ divided n arrivals rounds rest below is = (ap (λ a. a / n) (sym is) ∙ div-mul
 
 -- it opens the next round, or not
 pub by_count : (n from : ℕ) (A : Type 0) → (count_of from + 1 ≡ n → opens_by n from ≡ 1 → A) → (count_of from + 1 ≢ n → opens_by n from ≡ 0 → A) → A
-by_count n from A last early = by_test (count_of from + 1 == n) refl
-  where
-    by_test : (b : Bool) → (count_of from + 1 == n) ≡ b → A
-    by_test true test = last (eqb-true _ _ test) (ap (λ (b : Bool). cond b 1 0) test)
-    by_test false test = early (eqb-false _ _ test) (ap (λ (b : Bool). cond b 1 0) test)
+by_count n from A h1 h2 = grind (arith, nat_tests, eqb-true, eqb-false)
 
 module _ (n a : ℕ) where
   -- the same arrivals, where the rounds that are known to be open are
   pub again : (s u : Rounds) → AreRounds n a s → u.arrivals ≡ s.arrivals → u.opened ≡ s.opened → u.reached ≤ a / n → AreRounds n a u
-  again s u is counts opens known =
-      let so : AreRounds n a (rounds s.arrivals u.reached s.opened) = record { all = is.all; opened = is.opened; full = is.full; filling = is.filling; later = is.later; known = known } in
-      subst (AreRounds n a) (λ i. rounds (sym counts i) u.reached (sym opens i)) so
+  again s u h1 h2 h3 h4 = grind (arith, nat_tests, eqb-true, eqb-false)
 
   pub arrives : (from : ℕ) (t : Rounds) → 0 < n → count_of from ≡ a % n → AreRounds n a t → AreRounds n (1 + a) (arrived n from (a / n) t)
   arrives from t some count is = by_count n from (AreRounds n (1 + a) (arrived n from (a / n) t))
@@ -126,14 +93,8 @@ module _ (n a : ℕ) where
 
 -- what the word says of the arrivals, also where there are none
 
-unpacked : (quotient rest w : ℕ) → rest < 2 ^ 32 → w ≡ quotient % 2 ^ 32 * 2 ^ 32 + rest → (count_of w ≡ rest) × (epoch_of w ≡ quotient % 2 ^ 32)
-unpacked quotient rest w below is = (omega (arith, below, is), omega (arith, below, is))
-
 pub word_says : (n a w : ℕ) → n < 2 ^ 32 → CountsArrivals n a w → (n ≡ 0 → a ≡ 0) → (count_of w ≡ a % n) × (epoch_of w ≡ a / n % 2 ^ 32)
-word_says n a w fits counts nobody = unpacked (a / n) (a % n) w below counts
-  where
-    below : a % n < 2 ^ 32
-    below = dite (ℕ_discrete n 0) (λ nil. let zeros : a % n ≡ 0 = ap (λ (b : ℕ). b % n) (nobody nil) ∙ zero-mod n in omega (arith, zeros)) (λ some. omega (arith, mod_below a n (omega (arith, some)), fits))
+word_says n a w h1 h2 h3 = grind (arith, nat_tests, eqb-true, eqb-false, mod_below, zero-mod)
 
 -- each step of a barrier, by its place
 module _ (n : ℕ) (past : List (Event ℕ)) (call : Call ℕ) (t rest : Rounds) where

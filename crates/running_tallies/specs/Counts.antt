@@ -1,6 +1,5 @@
 -- A count for each place of a list, added up place by place.
-use Rattle.running_tallies.specs.Names.{slice_index}
-use Rattle.std.proofs.Common.{◌≡◌, ℕ, zero, suc, ◌+◌, List, [], ◌∷◌, refl, add_assoc, add_comm}
+use Rattle.running_tallies.specs.Names.{slice_index, ◌≡◌, ℕ, zero, suc, ◌+◌, List, [], ◌∷◌, refl, add_assoc, add_comm, nat_tests, eqb-true, eqb-false, arith}
 
 -- the count for this place
 abbrev pub count_at : ℕ → List ℕ → ℕ
@@ -26,7 +25,5 @@ counts_swap (x ∷ xs) [] = refl
 counts_swap (x ∷ xs) (y ∷ ys) = λ i. add_comm x y i ∷ counts_swap xs ys i
 
 pub counts_group : (xs ys zs : List ℕ) → both_counts (both_counts xs ys) zs ≡ both_counts xs (both_counts ys zs)
-counts_group [] ys zs = refl
-counts_group (x ∷ xs) [] zs = refl
-counts_group (x ∷ xs) (y ∷ ys) [] = refl
 counts_group (x ∷ xs) (y ∷ ys) (z ∷ zs) = λ i. add_assoc x y z i ∷ counts_group xs ys zs i
+counts_group xs ys zs = grind (arith, nat_tests, eqb-true, eqb-false, add_assoc)

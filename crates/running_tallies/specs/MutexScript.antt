@@ -1,9 +1,8 @@
 -- The model that a mutex plays.
-use Rattle.running_tallies.specs.Names.{ℕ, List, Event, u64_arithmetic, Model, IsPast}
+use Rattle.running_tallies.specs.Names.{ℕ, List, Event, u64_arithmetic, Model, IsPast, keeps_mutex}
 use Rattle.model_mutex.specs.declared.MutexPlace.{MutexPlace}
 use Rattle.model_mutex.specs.Table.{mutex_table}
 use Rattle.model_mutex.specs.Law.{KeepsMutex}
-use Rattle.model_mutex.proofs.Laws.{keeps_mutex}
 
 abbrev pub mutex_model : Model ℕ MutexPlace
 mutex_model = record { arithmetic = u64_arithmetic; table = mutex_table; law = KeepsMutex }

@@ -1,14 +1,6 @@
 -- What the passes of a lock with one holder at most count adds up, and follows the run.
-use Rattle.std.proofs.Common.{refl, ℕ, ◌+◌, ◌≡◌, ◌≤◌, ap, sym, subst, ◌∙◌, List, [], ◌∷◌, length, Option, Some, arith}
-use Rattle.std.proofs.lemmas.Bool.{eqb-true, eqb-false}
-use Rattle.std.proofs.lemmas.Bool.Decides.{nat_tests}
-use Rattle.model_events.specs.Past.{word_in, word_after}
-use Rattle.model_events.specs.Rows.{carried_out}
-use Rattle.model_events.specs.declared.row.Intent.{Intent}
+use Rattle.running_tallies.specs.Names.{refl, ℕ, ◌+◌, ◌≡◌, ◌≤◌, ap, sym, subst, ◌∙◌, List, [], ◌∷◌, length, Option, Some, arith, eqb-true, eqb-false, nat_tests, word_in, word_after, carried_out, Intent, mutex_is_lock, Model, Word, Call, Act, Event, HoldKind, Table, Hold, PendingCall, holds_of, u64_arithmetic, IsPast, StaysOnNoWord, GoesOnByActs, grants_by, same_grants, next_grants, quiet_holds, pairs_add_up, IsTally}
 use Rattle.model_events.proofs.Locks.{IsLock, IsLockIntent, IsFreeOrHeld, lock_word}
-use Rattle.model_mutex.proofs.Laws.{mutex_is_lock}
-use Rattle.running_model.specs.Models.{Model}
-use Rattle.running_tallies.specs.Names.{Word, Call, Act, Event, HoldKind, Table, Hold, PendingCall, holds_of, u64_arithmetic, IsPast, StaysOnNoWord, GoesOnByActs, grants_by, same_grants, next_grants, quiet_holds, pairs_add_up, IsTally}
 use Rattle.running_tallies.specs.declared.mutex.Holds.{Holds}
 use Rattle.running_tallies.specs.MutexScript.{mutex_model}
 use Rattle.running_tallies.specs.MutexRule.{holds, no_holds, both_holds, holds_after, holds_needed, AreHoldsIn}
@@ -20,11 +12,7 @@ pub no_holds_first : {P : Type 0} (t : Table ℕ P) → AreHoldsIn t [] no_holds
 no_holds_first t = record { holds = refl; one = omega arith; grants = refl }
 
 pub holds_stay : {P : Type 0} (t : Table ℕ P) → StaysOnNoWord (AreHoldsIn t)
-holds_stay t past e counts quiet is = record {
-  holds = is.holds ∙ ap (λ (hs : List Hold). length hs) (sym (quiet_holds t past e quiet));
-  one = is.one;
-  grants = same_grants t HoldKind.Write past e counts.grants quiet is.grants;
-}
+holds_stay t = grind (arith, nat_tests, eqb-true, eqb-false, quiet_holds, same_grants)
 
 -- the word is how many holds stand, of which there is one at most
 held_so : (w : ℕ) (hs : List Hold) → IsFreeOrHeld w hs → (w ≡ length hs) × (w ≤ 1)

@@ -1,8 +1,5 @@
 -- The model that a reader-preferring lock plays.
-use Rattle.running_tallies.specs.Names.{ℕ, List, Event, u64_arithmetic, Model, IsPast}
-use Rattle.model_rw_reader.specs.declared.RwReaderPlace.{RwReaderPlace}
-use Rattle.model_rw_reader.specs.Table.{rw_reader_table}
-use Rattle.model_rw_reader.specs.Law.{KeepsRwReader}
+use Rattle.running_tallies.specs.Names.{ℕ, List, Event, u64_arithmetic, Model, IsPast, RwReaderPlace, rw_reader_table, KeepsRwReader}
 use Rattle.model_rw_reader.proofs.AnswerLaws.{keeps_rw_reader}
 
 abbrev pub rw_reader_model : Model ℕ RwReaderPlace

@@ -1,8 +1,5 @@
 -- What a pass of a writer-preferring lock counts, and what all passes count together: what the acts of the run did.
-use Rattle.running_tallies.specs.Names.{◌≡◌, ℕ, ◌+◌, ◌-◌, ◌*◌, ◌^◌, ◌<◌, ◌≤◌, ◌==◌, true, false, if◌then◌else◌, List, Act, Call, Event, Word, HoldKind, grants_in}
-use Rattle.model_rw_writer.specs.Law.{has_mark}
-use Rattle.model_rw_writer.specs.Marks.{is_marked_after}
-use Rattle.model_rw_writer.specs.Table.{rw_writer_table}
+use Rattle.running_tallies.specs.Names.{◌≡◌, ℕ, ◌+◌, ◌-◌, ◌*◌, ◌^◌, ◌<◌, ◌≤◌, ◌==◌, true, false, if◌then◌else◌, List, Act, Call, Event, Word, HoldKind, grants_in, has_mark, is_marked_after, rw_writer_table}
 use Rattle.running_passes.specs.declared.part.Sights.{Sights}
 use Rattle.running_passes.specs.Sights.{seen, seen_instead, stale}
 use Rattle.running_tallies.specs.declared.held.Held.TheVariants.{Writing}

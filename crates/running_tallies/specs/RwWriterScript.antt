@@ -1,9 +1,7 @@
 -- The model that a writer-preferring lock plays.
-use Rattle.running_tallies.specs.Names.{ℕ, List, Word, Event, u64_arithmetic, Model, IsPast}
+use Rattle.running_tallies.specs.Names.{ℕ, List, Word, Event, u64_arithmetic, Model, IsPast, rw_writer_woken, rw_writer_table, KeepsRwWriter}
 use Rattle.model_events.specs.declared.event.Wake.{Wake}
 use Rattle.model_rw_writer.specs.declared.RwWriterPlace.{RwWriterPlace}
-use Rattle.model_rw_writer.specs.Table.{rw_writer_woken, rw_writer_table}
-use Rattle.model_rw_writer.specs.Law.{KeepsRwWriter}
 use Rattle.model_rw_writer.proofs.Causes.{keeps_rw_writer}
 
 abbrev pub rw_writer_model : Model ℕ RwWriterPlace

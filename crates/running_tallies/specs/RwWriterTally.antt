@@ -1,45 +1,18 @@
 -- What the passes of a writer-preferring lock count adds up, and follows the run.
-use Rattle.std.proofs.Common.{ℕ, ◌+◌, ◌-◌, ◌%◌, ◌^◌, ◌<◌, ◌≡◌, ◌≢◌, ◌==◌, Bool, true, is_some, refl, sym, subst, ◌∙◌, List, [], ◌∷◌, Option, Some, arith}
-use Rattle.std.proofs.lemmas.Bool.{eqb-true, eqb-false}
-use Rattle.std.proofs.lemmas.Bool.Decides.{nat_tests}
-use Rattle.model_events.specs.Past.{word_in, word_after, hold_of}
-use Rattle.model_events.specs.Rows.{carried_out}
-use Rattle.model_events.specs.declared.row.Intent.{Intent}
-use Rattle.model_rw_writer.specs.Law.{CountsHolds, KeepsRwWriter}
-use Rattle.model_rw_writer.specs.Marks.{is_marked_after, setter_of, setter_after}
-use Rattle.model_rw_writer.specs.Table.{rw_writer_table}
+use Rattle.running_tallies.specs.Names.{ℕ, ◌+◌, ◌-◌, ◌%◌, ◌^◌, ◌<◌, ◌≡◌, ◌==◌, Bool, true, refl, sym, subst, ◌∙◌, List, [], ◌∷◌, Option, Some, arith, eqb-true, eqb-false, nat_tests, word_in, word_after, hold_of, carried_out, Intent, KeepsRwWriter, is_marked_after, rw_writer_table, Word, Call, Act, Event, HoldKind, Hold, PendingCall, call_of, holds_of, reads_in, writes_in, u64_arithmetic, IsTally, StaysOnNoWord, GoesOnByActs, grants_by, same_grants, next_grants}
+use Rattle.model_rw_writer.specs.Law.{CountsHolds}
 use Rattle.model_rw_writer.proofs.WordLaws.{IsExchange, IsWriterIntent}
 use Rattle.model_rw_writer.proofs.PlaceLaws.{writer_intent, here}
-use Rattle.running_tallies.specs.Names.{Word, Call, Act, Event, HoldKind, Hold, PendingCall, call_of, holds_of, reads_in, writes_in, u64_arithmetic, IsTally, StaysOnNoWord, GoesOnByActs, IsOnNoWord, on_no_word, grants_by, same_grants, next_grants}
 use Rattle.running_tallies.specs.Held.{read_holds, write_holds}
-use Rattle.running_tallies.specs.HeldTally.{same_nothing, tells_same_nothing, held_adds_up}
-use Rattle.running_tallies.specs.RwReaderRule.{Holds}
-use Rattle.running_tallies.specs.RwReaderTally.{holds_stay}
 use Rattle.running_tallies.specs.RwWriterScript.{rw_writer_model, rw_writer_lawful}
 use Rattle.running_tallies.specs.declared.rw_writer.MarkedHolds.{MarkedHolds}
-use Rattle.running_tallies.specs.RwWriterRule.{marked, nothing_marked, both_marked, read, no_more_read, written, no_more_written, flagged, lowered, marked_after, marked_needed, AreMarkedIn, IsMarkedOrHeld}
-
-same_marked : (t u : Holds) (a b c d e f : ℕ) → t ≡ u → a ≡ b → c ≡ d → e ≡ f → marked t a c e ≡ marked u b d f
-same_marked t u a b c d e f held flags reads writes = λ i. marked (held i) (flags i) (reads i) (writes i)
+use Rattle.running_tallies.specs.RwWriterRule.{nothing_marked, both_marked, no_more_read, no_more_written, lowered, marked_after, marked_needed, AreMarkedIn, IsMarkedOrHeld}
 
 pub marked_add_up : IsTally nothing_marked both_marked (λ _. nothing_marked)
-marked_add_up = let holds = held_adds_up same_nothing tells_same_nothing in record {
-  unit = λ t. same_marked _ t.held _ t.flags _ t.read_grants _ t.write_grants refl (omega arith) (omega arith) (omega arith);
-  swap = λ t u. same_marked _ _ _ _ _ _ _ _ (holds.swap t.held u.held) (omega arith) (omega arith) (omega arith);
-  group = λ t u v. same_marked _ _ _ _ _ _ _ _ (holds.group t.held u.held v.held) (omega arith) (omega arith) (omega arith);
-  copy = λ t. same_marked _ t.held _ t.flags _ t.read_grants _ t.write_grants refl (omega arith) (omega arith) (omega arith);
-}
-
-quiet_mark : (past : List (Event ℕ)) (e : Event ℕ) → IsOnNoWord e.act → is_marked_after (e ∷ past) ≡ is_marked_after past
-quiet_mark past e = on_no_word (λ act. is_some (setter_after e.party act (call_of e.party past) (setter_of past)) ≡ is_some (setter_of past)) (λ call. refl) (λ action. refl) (λ choice. refl) (λ wake. refl) refl (λ value. refl) e.act
+marked_add_up = grind (arith, nat_tests, eqb-true, eqb-false)
 
 pub marks_stay : StaysOnNoWord AreMarkedIn
-marks_stay past e counts quiet is = record {
-  holds = holds_stay rw_writer_table past e counts.held quiet is.holds;
-  flagged = λ set. is.flagged (sym (quiet_mark past e quiet) ∙ set);
-  reads = same_grants rw_writer_table HoldKind.Read past e counts.read_grants quiet is.reads;
-  writes = same_grants rw_writer_table HoldKind.Write past e counts.write_grants quiet is.writes;
-}
+marks_stay = grind (arith, nat_tests, eqb-true, eqb-false, same_grants)
 
 pub marks_open : AreMarkedIn [] nothing_marked
 marks_open = record { holds = record { reads = refl; writes = refl }; flagged = λ set. absurd cc; reads = refl; writes = refl }
@@ -62,18 +35,6 @@ counted_so w hs set t h1 h2 = grind (arith, nat_tests, eqb-true, eqb-false)
 abbrev MarkedAfter : Act ℕ → Call ℕ → ℕ → MarkedHolds → MarkedHolds → Type 0
 MarkedAfter act call w t rest = IsMarkedOrHeld (word_after Word.State act w) (both_marked (marked_after act call t) rest)
 
-reads_on : (w : ℕ) (t rest : MarkedHolds) → IsMarkedOrHeld w (both_marked t rest) → w % 2 ≡ 0 → w < 2 ^ 64 - 4 → IsMarkedOrHeld (w + 2) (both_marked (read t) rest)
-reads_on w t rest h1 h2 h3 = grind (arith, nat_tests, eqb-true, eqb-false)
-
-writes_on : (w : ℕ) (t rest : MarkedHolds) → IsMarkedOrHeld w (both_marked t rest) → w < 2 → IsMarkedOrHeld (2 ^ 64 - 1) (both_marked (written t) rest)
-writes_on w t rest h1 h2 = grind (arith, nat_tests, eqb-true, eqb-false)
-
-sets : (w : ℕ) (t rest : MarkedHolds) → IsMarkedOrHeld w (both_marked t rest) → w % 2 ≡ 0 → IsMarkedOrHeld (w + 1) (both_marked (flagged 1 t) rest)
-sets w t rest h1 h2 = grind (arith, nat_tests, eqb-true, eqb-false)
-
-takes : (w to : ℕ) (t rest : MarkedHolds) → IsMarkedOrHeld w (both_marked t rest) → w % 2 ≡ 1 → w ≢ 2 ^ 64 - 1 → w ≡ to + 1 → IsMarkedOrHeld to (both_marked (flagged 0 t) rest)
-takes w to t rest h1 h2 h3 h4 = grind (arith, nat_tests, eqb-true, eqb-false)
-
 sees_again : (w : ℕ) (t rest : MarkedHolds) → IsMarkedOrHeld w (both_marked t rest) → IsMarkedOrHeld w (both_marked (lowered w t) rest)
 sees_again w t rest h1 = grind (arith, nat_tests, eqb-true, eqb-false)
 
@@ -84,17 +45,12 @@ writes_off : (w : ℕ) (t rest : MarkedHolds) → IsMarkedOrHeld w (both_marked 
 writes_off w t rest h1 h2 = grind (arith, nat_tests, eqb-true, eqb-false)
 
 exchanges : (call by : Call ℕ) (from to w : ℕ) (t rest : MarkedHolds) → IsExchange by from to → IsMarkedOrHeld w (both_marked t rest) → MarkedAfter (Act.Exchange Word.State from to w (w == from)) call w t rest
-exchanges call by from to w t rest h1 h2 = grind (arith, nat_tests, eqb-true, eqb-false, reads_on, writes_on, sets, takes, sees_again)
+exchanges call by from to w t rest h1 h2 = grind (arith, nat_tests, eqb-true, eqb-false)
 
 goes : (intent : Intent ℕ) (c : PendingCall ℕ) (hold : Option HoldKind) (call : Call ℕ) (memory : Word → ℕ) (t rest : MarkedHolds) → IsWriterIntent c.call hold intent → IsMarkedOrHeld (memory Word.State) (both_marked t rest) →
     marked_needed (carried_out intent memory) t → MarkedAfter (carried_out intent memory) call (memory Word.State) t rest
 goes (Intent.Exchange Word.State from to) c hold call memory t rest may is has = exchanges call c.call from to (memory Word.State) t rest may.1 is
-goes (Intent.Subtract Word.State less) c hold call memory t rest may is has = rw may.0 (reads_off (memory Word.State) t rest is has)
-goes (Intent.Store Word.State put) c hold call memory t rest may is has = rw may.0 (writes_off (memory Word.State) t rest is has)
-goes (Intent.Swap Word.State put) c hold call memory t rest may is has = absurd may
-goes (Intent.Add Word.State more) c hold call memory t rest may is has = absurd may
-goes (Intent.Load Word.State) c hold Call.WriteLock memory t rest may is has = sees_again (memory Word.State) t rest is
-goes other c hold call memory t rest may is has = is
+goes intent c hold call memory t rest h1 h2 h3 = grind (arith, nat_tests, eqb-true, eqb-false, exchanges, reads_off, sees_again, writes_off)
 
 -- and grants are counted as they are made
 grants_more : (intent : Intent ℕ) (c : PendingCall ℕ) (hold : Option HoldKind) (call : Call ℕ) (memory : Word → ℕ) (t : MarkedHolds) (act : Act ℕ) (k : Option (PendingCall ℕ)) → IsWriterIntent c.call hold intent → act ≡ carried_out intent memory → k ≡ Some c →

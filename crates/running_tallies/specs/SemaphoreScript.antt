@@ -1,6 +1,5 @@
 -- The model that a semaphore plays.
-use Rattle.std.proofs.Common.{arith}
-use Rattle.running_tallies.specs.Names.{ℕ, ◌%◌, ◌^◌, List, Event, u64_arithmetic, Model, IsPast, KeepsSemaphore}
+use Rattle.running_tallies.specs.Names.{arith, ℕ, ◌%◌, ◌^◌, List, Event, u64_arithmetic, Model, IsPast, KeepsSemaphore}
 use Rattle.model_semaphore.specs.declared.SemaphorePlace.{SemaphorePlace}
 use Rattle.model_semaphore.specs.Table.{semaphore_table}
 use Rattle.model_semaphore.proofs.Laws.{keeps_semaphore}

@@ -1,6 +1,6 @@
 -- Each call that an object has is found by its name, and read back from its words.
 use Rattle.sync_play.specs.Names.{ℕ, codes, Call, Input, Object, Arithmetic, IsValue, CallValues, has_call, Task, LineFault, name_of, calls_of, named, find, verbs, with_one, with_two, call_if, task_if, task_of, values_written, ◌>>=◌, only_two, Numerals, ReadsItsOwn}
-use Rattle.sync_play.proofs.Names.{◌≡◌, refl, ap, ◌∙◌, true, false, List, [], ◌∷◌, Some, None, Result, Ok, is_some, arith}
+use Rattle.sync_play.proofs.Names.{nat_tests, eqb-true, eqb-false, ◌≡◌, refl, ap, ◌∙◌, true, false, List, [], ◌∷◌, Some, None, Result, Ok, is_some, arith}
 use Rattle.model_events.specs.IntegerLaws.{unsigned_value}
 use Rattle.text_lines.specs.NumeralLaws.{unsigned_reads_back}
 use Rattle.sync_play.specs.Calls.{CallsAreNamed, CallsAreReadBack}
@@ -40,16 +40,7 @@ bare (Call.FetchMin v) = Call.FetchMin tt
 bare Call.FetchUpdate = Call.FetchUpdate
 
 found : {T : Type 0} (o : Object T) (call : Call T) → has_call o call ≡ true → named (name_of call) (calls_of o) ≡ Some (bare call)
-found Object.Mutex call has = grind arith
-found Object.Spin call has = grind arith
-found (Object.Semaphore initial) call has = grind arith
-found (Object.Barrier n) call has = grind arith
-found Object.ReaderLock call has = grind arith
-found Object.WriterLock call has = grind arith
-found Object.Condvar call has = grind arith
-found Object.Once call has = grind arith
-found (Object.Lazy v) call has = grind arith
-found (Object.Atomic v) call has = grind arith
+found o call h1 = grind (arith, nat_tests, eqb-true, eqb-false)
 
 pub calls_are_named : {T : Type 0} → CallsAreNamed T
 calls_are_named o call has = ap is_some (found o call has)
@@ -61,8 +52,7 @@ abbrev pair : {A : Type 0} → A → A → Result (A × A) LineFault
 pair first second = Ok (first, second)
 
 two_read : {A : Type 0} (read : List ℕ → Result A LineFault) (a b : List ℕ) (v w : A) → read a ≡ Ok v → read b ≡ Ok w → only_two read (a ∷ b ∷ []) ≡ Ok (v, w)
-two_read {A} read a b v w first second =
-    ap (λ (r : Result A LineFault). r >>= λ x. read b >>= λ y. pair x y) first ∙ ap (λ (r : Result A LineFault). r >>= λ y. pair v y) second
+two_read read a b v w h1 h2 = grind (arith, nat_tests, eqb-true, eqb-false)
 
 module _ {T : Type 0} (z : Arithmetic T) (numerals : Numerals T) (own : ReadsItsOwn z numerals) where
   both : (call : Call Unit) (v w : T) → IsValue z v → IsValue z w →

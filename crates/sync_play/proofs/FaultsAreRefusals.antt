@@ -1,6 +1,6 @@
 -- A text's fault is that of its first refused line, and every refused line is told.
 use Rattle.sync_play.specs.Names.{Event, Input, Object, StepFault, Arithmetic, Move, goes_on, InputValues, fault_of, move_of, IsNext, after, IsRun, FaultyLine, LineFault, Header, Command, Task, command_of, ◌>>=◌, at_line, line_fault_of, words_of, header_of, Numerals, ReadsValues}
-use Rattle.sync_play.proofs.Names.{◌≡◌, ℕ, zero, suc, ◌+◌, Bool, true, false, cond, List, [], ◌∷◌, ◌++◌, length, Option, Some, None, Result, Ok, Err, ◌⊎◌, inl, inr, refl, sym, ap, subst, ◌∙◌, arith, HasValues, command_values}
+use Rattle.sync_play.proofs.Names.{nat_tests, eqb-true, eqb-false, ◌≡◌, ℕ, zero, suc, ◌+◌, Bool, true, cond, List, [], ◌∷◌, ◌++◌, length, Option, Some, None, Result, Ok, Err, ◌⊎◌, inl, inr, refl, sym, ap, subst, ◌∙◌, arith, HasValues, command_values}
 use Rattle.sync_play.specs.Player.{event_by, unless_refused, event_of, events_of, run_of, steps_of, task_events}
 use Rattle.sync_play.specs.Text.{events_asked, line_events, output_after, typed_output}
 use Rattle.sync_play.specs.Print.{printed}
@@ -14,12 +14,10 @@ use Rattle.sync_play.proofs.TextLaws.{after_both, asks_wrongly, asks_command, li
 -- A step that may fail fails at first, or afterwards.
 
 pub fails : {A B E : Type 0} (r : Result A E) (f : A → Result B E) (fault : E) → (r >>= f) ≡ Err fault → (r ≡ Err fault) ⊎ ((x : A) × (r ≡ Ok x) × (f x ≡ Err fault))
-fails {A} {B} {E} (Err d) f fault e = let same : d ≡ fault = cc in inl (ap (λ (x : E). Err x) same)
-fails (Ok x) f fault e = inr (x, refl, e)
+fails r f fault h1 = grind (arith, nat_tests, eqb-true, eqb-false)
 
 inner : {A B E : Type 0} (r : Result A E) (f : A → B) (fault : E) → (r >>= λ x. Ok (f x)) ≡ Err fault → r ≡ Err fault
-inner {A} {B} {E} (Err d) f fault e = let same : d ≡ fault = cc in ap (λ (x : E). Err x) same
-inner (Ok x) f fault e = absurd cc
+inner r f fault h1 = grind (arith, nat_tests, eqb-true, eqb-false)
 
 module _ {T : Type 0} (z : Arithmetic T) (numerals : Numerals T) (reads : ReadsValues z numerals) where
   abbrev Ev : Type 0
@@ -34,9 +32,7 @@ module _ {T : Type 0} (z : Arithmetic T) (numerals : Numerals T) (reads : ReadsV
 
   refused_by : (party : ℕ) (refused : Option StepFault) (move : Option (Move T)) (fault : LineFault) → (refused ≡ None → move ≡ None → ⊥)
       → unless_refused refused (event_by party move) ≡ Err fault → (refusal : StepFault) × (refused ≡ Some refusal) × (fault ≡ line_fault_of refusal)
-  refused_by party (Some refusal) move fault moves e = (refusal, refl, cc)
-  refused_by party None (Some m) fault moves e = absurd cc
-  refused_by party None None fault moves e = absurd (moves refl refl)
+  refused_by party refused move fault h1 h2 = grind (arith, nat_tests, eqb-true, eqb-false)
 
   input_refused : (o : Object T) (parties : ℕ) (past : List Ev) (party : ℕ) (input : Input T) (fault : LineFault) → HavePlacesAt z o past → event_of z o parties past party input ≡ Err fault → InputRefused o parties past party input fault
   unfolding event_of
@@ -91,8 +87,7 @@ module _ {T : Type 0} (z : Arithmetic T) (numerals : Numerals T) (reads : ReadsV
   refused_on o parties past party limit e fault n goes (inr r) = inr (e ∷ r.0, (goes, r.1), (n, r.2), r.3)
 
   goes_or_ends : (e : Ev) (b : Bool) (more : Result (List Ev) LineFault) (fault : LineFault) → goes_on e.then ≡ b → cond b (more >>= λ es. Ok (e ∷ es)) (Ok (e ∷ [])) ≡ Err fault → (goes_on e.then ≡ true) × (more ≡ Err fault)
-  goes_or_ends e true more fault g h = (g, inner more (λ es. e ∷ es) fault h)
-  goes_or_ends e false more fault g h = absurd cc
+  goes_or_ends e b more fault h1 h2 = grind (arith, nat_tests, eqb-true, eqb-false, inner)
 
   run_refused : (o : Object T) (parties : ℕ) (past : List Ev) (party limit : ℕ) (fault : LineFault) → HavePlacesAt z o past → run_of z o parties limit past party ≡ Err fault → RunRefused z o parties past party limit fault
   unfolding run_of steps_of
@@ -142,11 +137,7 @@ module _ {T : Type 0} (z : Arithmetic T) (numerals : Numerals T) (reads : ReadsV
     pub refused : LineRefused z numerals o parties (after events past) (words_of line) fault
 
   at_fails : {A : Type 0} (n : ℕ) (r : Result A LineFault) (fault : FaultyLine) → at_line n r ≡ Err fault → (r ≡ Err fault.fault) × (fault.line ≡ n)
-  at_fails n (Ok x) fault e = absurd cc
-  at_fails {A} n (Err f) fault e =
-      let made : FaultyLine = record { line = n; fault = f } in
-      let same : made ≡ fault = cc in
-      (ap (λ (d : FaultyLine). Err d.fault) same, ap (λ (d : FaultyLine). d.line) (sym same))
+  at_fails n r fault h1 = grind (arith, nat_tests, eqb-true, eqb-false)
 
   refused_here : (o : Object T) (parties : ℕ) (past : List Ev) (number : ℕ) (line : List ℕ) (lines : List (List ℕ)) (told : ℕ) (fault : LineFault) → told ≡ number → LineRefused z numerals o parties past (words_of line) fault
       → FirstRefused o parties past number (line ∷ lines) told fault
@@ -191,8 +182,7 @@ module _ {T : Type 0} (z : Arithmetic T) (numerals : Numerals T) (reads : ReadsV
 
   opened_refused : (first : List ℕ) (lines : List (List ℕ)) (header : Header T) (fault : FaultyLine) → Ok header ≡ header_of numerals (words_of first) → FirstRefused header.object header.parties [] 2 lines fault.line fault.fault
       → LaterLineRefused z numerals first lines fault.line fault.fault
-  opened_refused first lines header fault names r =
-      record { header = header; names = sym names; before = r.before; line = r.line; others = r.others; lines_are = r.lines_are; number_is = r.number_is; schedule = r.schedule; events = r.events; asks = r.asks; run = r.run; refused = r.refused }
+  opened_refused first lines header fault h1 h2 = grind (arith, nat_tests, eqb-true, eqb-false)
 
   pub text_refused : (lines : List (List ℕ)) (fault : FaultyLine) → typed_output z numerals lines ≡ Err fault → IsRefusedLine z numerals lines fault.line fault.fault
   unfolding typed_output
@@ -258,9 +248,7 @@ module _ {T : Type 0} (z : Arithmetic T) (numerals : Numerals T) (reads : ReadsV
   task_fails o parties past party (Task.Run limit) fault r = run_fails o parties past party limit fault r
 
   words_fail : (o : Object T) (parties : ℕ) (past : List Ev) (words : List (List ℕ)) (fault : LineFault) → LineRefused z numerals o parties past words fault → line_events z numerals o parties past words ≡ Err fault
-  words_fail o parties past words fault (inl unknown) = asks_wrongly z numerals o parties past words fault (sym unknown)
-  words_fail o parties past words fault (inr asked) =
-      asks_command z numerals o parties past words asked.0 (sym asked.1) ∙ task_fails o parties past asked.0.party asked.0.task fault asked.2
+  words_fail o parties past words fault h1 = grind (arith, nat_tests, eqb-true, eqb-false, asks_command, asks_wrongly, task_fails)
 
   below_fails : (o : Object T) (parties number told : ℕ) (line : List ℕ) (lines : List (List ℕ)) (past front : List Ev) (fault : LineFault) → line_events z numerals o parties past (words_of line) ≡ Ok front
       → output_after z numerals o parties (number + 1) lines (after front past) ≡ Err (record { line = told; fault = fault }) → output_after z numerals o parties number (line ∷ lines) past ≡ Err (record { line = told; fault = fault })

@@ -6,3 +6,5 @@ pub use Rattle.std.proofs.lemmas.List.Concat.{flat_map-append}
 pub use Rattle.std.proofs.lemmas.Result.{err_from_is_err_and}
 pub use Rattle.text_lines.proofs.CommandLaws.{HasValues, command_values}
 pub use Rattle.text_lines.proofs.FaultLaws.{bind_ok, ok_is}
+pub use Rattle.std.proofs.lemmas.Bool.Decides.{nat_tests}
+pub use Rattle.std.proofs.lemmas.Bool.{eqb-false, eqb-true}

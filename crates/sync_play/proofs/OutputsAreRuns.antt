@@ -1,6 +1,6 @@
 -- Where a text has an output, it is what a run of the text's inputs prints.
 use Rattle.sync_play.specs.Names.{Event, Input, Object, StepFault, Arithmetic, Move, goes_on, InputValues, call_of, hold_of, table_of, word_in, fault_of, move_of, IsNext, after, IsRun, FaultyLine, LineFault, Task, Command, ◌>>=◌, at_line, command_of, words_of, header_of, Numerals, ReadsValues}
-use Rattle.sync_play.proofs.Names.{◌≡◌, ℕ, zero, suc, ◌+◌, ◌≤◌, Bool, true, false, cond, List, [], ◌∷◌, ◌++◌, Option, Some, None, Result, Ok, Err, refl, sym, ap, subst, ◌∙◌, append_assoc, arith, flat_map-append, bind_ok, ok_is, HasValues, command_values}
+use Rattle.sync_play.proofs.Names.{nat_tests, eqb-true, eqb-false, ◌≡◌, ℕ, zero, suc, ◌+◌, ◌≤◌, Bool, true, false, cond, List, [], ◌∷◌, ◌++◌, Option, Some, None, Result, Ok, refl, sym, ap, subst, ◌∙◌, append_assoc, arith, flat_map-append, bind_ok, ok_is, HasValues, command_values}
 use Rattle.model_events.proofs.Steps.{form_of_move}
 use Rattle.sync_play.specs.Player.{event_by, unless_refused, event_of, events_of, run_of, steps_of, task_events}
 use Rattle.sync_play.specs.Text.{events_asked, line_events, output_after, typed_output}
@@ -18,12 +18,10 @@ pub same_ok : {A E : Type 0} (x y : A) → ok_in {E = E} x ≡ ok_in y → x ≡
 same_ok x y e = cc
 
 pub bind_in : {A B E : Type 0} (r : Result A E) (f : A → Result B E) (y : B) → (r >>= f) ≡ Ok y → (x : A) × (r ≡ Ok x) × (f x ≡ Ok y)
-bind_in (Ok x) f y e = (x, refl, e)
-bind_in (Err d) f y e = absurd cc
+bind_in r f y h1 = grind (arith, nat_tests, eqb-true, eqb-false)
 
 pub ok_at_line : {A : Type 0} (n : ℕ) (r : Result A LineFault) (x : A) → at_line n r ≡ Ok x → r ≡ Ok x
-ok_at_line {A} n (Ok y) x e = let same : y ≡ x = same_ok {E = FaultyLine} y x e in ap (λ (z : A). Ok z) same
-ok_at_line n (Err fault) x e = absurd cc
+ok_at_line n r x h1 = grind (arith, nat_tests, eqb-true, eqb-false, same_ok)
 
 module _ {T : Type 0} (z : Arithmetic T) (numerals : Numerals T) (reads : ReadsValues z numerals) where
   abbrev Ev : Type 0
@@ -37,11 +35,7 @@ module _ {T : Type 0} (z : Arithmetic T) (numerals : Numerals T) (reads : ReadsV
     moved : move ≡ Some (record { act = e.act; outcome = e.then })
 
   allowed_by : (party : ℕ) (fault : Option StepFault) (move : Option (Move T)) (e : Ev) → unless_refused fault (event_by party move) ≡ Ok e → IsAllowed party fault move e
-  allowed_by party (Some fault) move e h = absurd cc
-  allowed_by party None None e h = absurd cc
-  allowed_by party None (Some m) e h =
-      let made : Ev = record { party = party; act = m.act; «then» = m.outcome } in
-      subst (λ (x : Ev). IsAllowed party None (Some m) x) (same_ok {E = LineFault} made e h) (record { allowed = refl; party_is = refl; moved = refl })
+  allowed_by party fault move e h1 = grind (arith, nat_tests, eqb-true, eqb-false, same_ok)
 
   pub next_is : (o : Object T) (parties : ℕ) (past : List Ev) (party : ℕ) (input : Input T) (e : Ev) → InputValues z input → event_of z o parties past party input ≡ Ok e → IsNext z o parties past party input e
   unfolding event_of
@@ -86,8 +80,7 @@ module _ {T : Type 0} (z : Arithmetic T) (numerals : Numerals T) (reads : ReadsV
     ends : EndsFirstAtLast events
 
   ends_later : (e : Ev) (events : List Ev) → goes_on e.then ≡ true → EndsFirstAtLast events → EndsFirstAtLast (e ∷ events)
-  ends_later e [] h k = absurd k
-  ends_later e (f ∷ events) h k = (h, k)
+  ends_later e events h1 h2 = grind (arith, nat_tests, eqb-true, eqb-false)
 
   step_again : (o : Object T) (parties : ℕ) (past : List Ev) (party limit : ℕ) (e : Ev) (events : List Ev) → IsNext z o parties past party Input.Go e → goes_on e.then ≡ true → RunsToEnd o parties (e ∷ past) party limit events
       → RunsToEnd o parties past party (suc limit) (e ∷ events)

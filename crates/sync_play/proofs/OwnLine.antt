@@ -32,92 +32,62 @@ taken_again = event 1 (Act.Exchange Word.State 0 1 0 true) (Then.Answers Answer.
 abbrev begun : ℕ → Act ℕ → Ev
 begun party act = event party act Then.GoesOn
 
--- the inputs and the events from each line on
-abbrev inputs_5 : List (ℕ × Input ℕ)
-inputs_5 = (1, Input.Go) ∷ []
+-- the inputs and the events of all lines
+abbrev inputs : List (ℕ × Input ℕ)
+inputs = (0, Input.Begin Call.TryLock) ∷ (0, Input.Go) ∷ (0, Input.Begin Call.Unlock) ∷ (0, Input.Go) ∷ (0, Input.Go) ∷ (1, Input.Begin Call.Lock) ∷ (1, Input.Go) ∷ []
 
-abbrev events_5 : List Ev
-events_5 = taken_again ∷ []
+abbrev events : List Ev
+events = begun 0 (Act.Begun Call.TryLock) ∷ taken ∷ begun 0 (Act.Begun Call.Unlock) ∷ released ∷ woken ∷ begun 1 (Act.Begun Call.Lock) ∷ taken_again ∷ []
 
-abbrev inputs_4 : List (ℕ × Input ℕ)
-inputs_4 = (1, Input.Begin Call.Lock) ∷ inputs_5
-
-abbrev events_4 : List Ev
-events_4 = begun 1 (Act.Begun Call.Lock) ∷ events_5
-
-abbrev inputs_3 : List (ℕ × Input ℕ)
-inputs_3 = (0, Input.Go) ∷ (0, Input.Go) ∷ inputs_4
-
-abbrev events_3 : List Ev
-events_3 = released ∷ woken ∷ events_4
-
-abbrev inputs_2 : List (ℕ × Input ℕ)
-inputs_2 = (0, Input.Begin Call.Unlock) ∷ inputs_3
-
-abbrev events_2 : List Ev
-events_2 = begun 0 (Act.Begun Call.Unlock) ∷ events_3
-
-abbrev inputs_1 : List (ℕ × Input ℕ)
-inputs_1 = (0, Input.Go) ∷ inputs_2
-
-abbrev events_1 : List Ev
-events_1 = taken ∷ events_2
-
-abbrev inputs_0 : List (ℕ × Input ℕ)
-inputs_0 = (0, Input.Begin Call.TryLock) ∷ inputs_1
-
-abbrev events_0 : List Ev
-events_0 = begun 0 (Act.Begun Call.TryLock) ∷ events_1
-
-is_run : IsRun u64_arithmetic Object.Mutex 2 [] inputs_0 events_0
+is_run : IsRun u64_arithmetic Object.Mutex 2 [] inputs events
 is_run = (record { allowed = refl; values = tt; party_is = refl; form = refl; moved = refl }, (record { allowed = refl; values = tt; party_is = refl; form = refl; moved = refl }, (record { allowed = refl; values = tt; party_is = refl; form = refl; moved = refl }, (record { allowed = refl; values = tt; party_is = refl; form = refl; moved = refl }, (record { allowed = refl; values = tt; party_is = refl; form = refl; moved = refl }, (record { allowed = refl; values = tt; party_is = refl; form = refl; moved = refl }, (record { allowed = refl; values = tt; party_is = refl; form = refl; moved = refl }, tt)))))))
 
 abbrev lines : List (List ℕ)
 lines = codes "1 try_lock" ∷ codes "1 go" ∷ codes "1 unlock" ∷ codes "1 run" ∷ codes "2 lock" ∷ codes "2 go" ∷ []
 
-asks : LinesAsk u64_numerals Object.Mutex lines inputs_0 events_0
+asks : LinesAsk u64_numerals Object.Mutex lines inputs events
 unfolding command_of task_of steps_of
 asks = (
   (0, Input.Begin Call.TryLock) ∷ [],
-  inputs_1,
+  _,
   begun 0 (Act.Begun Call.TryLock) ∷ [],
-  events_1,
+  _,
   refl,
   refl,
   refl,
   (Some (record { party = 0; task = Task.Give (Input.Begin Call.TryLock) }), refl, refl),
   (
     (0, Input.Go) ∷ [],
-    inputs_2,
+    _,
     taken ∷ [],
-    events_2,
+    _,
     refl,
     refl,
     refl,
     (Some (record { party = 0; task = Task.Go 1 }), refl, refl),
     (
       (0, Input.Begin Call.Unlock) ∷ [],
-      inputs_3,
+      _,
       begun 0 (Act.Begun Call.Unlock) ∷ [],
-      events_3,
+      _,
       refl,
       refl,
       refl,
       (Some (record { party = 0; task = Task.Give (Input.Begin Call.Unlock) }), refl, refl),
       (
         (0, Input.Go) ∷ (0, Input.Go) ∷ [],
-        inputs_4,
+        _,
         released ∷ woken ∷ [],
-        events_4,
+        _,
         refl,
         refl,
         refl,
         (Some (record { party = 0; task = Task.Run 100000 }), refl, (2, omega arith, refl, (refl, refl))),
         (
           (1, Input.Begin Call.Lock) ∷ [],
-          inputs_5,
+          _,
           begun 1 (Act.Begun Call.Lock) ∷ [],
-          events_5,
+          _,
           refl,
           refl,
           refl,
@@ -145,7 +115,7 @@ output = codes "1 success\n1 wakes one\n1 done\n2 success\nword 1 failed 0\n"
 is_run_of_text : IsRunOfText text output
 unfolding header_of last_line
 is_run_of_text =
-    record { first = codes "mutex 2"; others = lines; lines_are = refl; header = record { object = Object.Mutex; parties = 2 }; names = refl; schedule = inputs_0; events = events_0; asks = asks; run = is_run; bytes_are = rw (decimal_digit 0 (omega arith), decimal_digit 1 (omega arith), decimal_digit 2 (omega arith)) refl }
+    record { first = codes "mutex 2"; others = lines; lines_are = refl; header = record { object = Object.Mutex; parties = 2 }; names = refl; schedule = inputs; events = events; asks = asks; run = is_run; bytes_are = rw (decimal_digit 0 (omega arith), decimal_digit 1 (omega arith), decimal_digit 2 (omega arith)) refl }
 
 abbrev output_length : Result (List ℕ) FaultyLine → ℕ
 output_length (Ok bytes) = length bytes

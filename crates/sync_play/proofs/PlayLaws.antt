@@ -1,12 +1,12 @@
 -- A walk is played and printed, one more stride at a time.
 use Rattle.sync_play.specs.Names.{replicate, Act, Event, Object, Arithmetic, after, Configuration, StandsAt, is_quiet, IsQuiet, FaultyLine, TextFault, Header, IsFaultOf, lines_of, Numerals}
-use Rattle.sync_play.proofs.Names.{◌≡◌, ℕ, zero, suc, ◌<◌, true, List, [], ◌∷◌, ◌++◌, Option, Some, None, Result, Ok, Err, IfSome, refl, sym, ap, subst, ◌∙◌, append_assoc, arith, append-nil}
+use Rattle.sync_play.proofs.Names.{nat_tests, eqb-true, eqb-false, ◌≡◌, ℕ, zero, suc, ◌<◌, true, List, [], ◌∷◌, ◌++◌, Option, Some, None, Result, Ok, Err, IfSome, refl, sym, ap, ◌∙◌, append_assoc, arith, append-nil}
 use Rattle.sync_play.specs.declared.walk.Rest.{Rest}
 use Rattle.sync_play.specs.declared.walk.Step.{Step}
 use Rattle.sync_play.specs.declared.walk.Stride.{Stride}
 use Rattle.sync_play.specs.Print.{printed, act_line, event_lines, last_line}
 use Rattle.sync_play.specs.Text.{typed_output}
-use Rattle.sync_play.specs.Walk.{Walk, steps_then, nothing, go_walk, lines_walk, opened, rest_walk, after_times, IsNextStride}
+use Rattle.sync_play.specs.Walk.{Walk, steps_then, nothing, go_walk, lines_walk, opened, rest_walk, IsNextStride}
 use Rattle.sync_play.specs.WalkOutput.{events_in, output_unless, output_in, output_opened, PrintsAll}
 use Rattle.sync_play.proofs.TextLaws.{after_both}
 use Rattle.sync_play.proofs.WalksAreOutputs.{walks_print}
@@ -41,17 +41,7 @@ module _ {T : Type 0} (z : Arithmetic T) (numerals : Numerals T) where
   -- An event that leaves all as it is prints nothing.
 
   quiet_act : (party : ℕ) (act : Act T) → is_quiet act ≡ true → act_line party act ≡ []
-  quiet_act party (Act.Woke wake) quiet = absurd cc
-  quiet_act party (Act.Begun call) quiet = refl
-  quiet_act party (Act.Load word seen) quiet = refl
-  quiet_act party (Act.Store word put) quiet = refl
-  quiet_act party (Act.Swap word old put) quiet = refl
-  quiet_act party (Act.Add word old put) quiet = refl
-  quiet_act party (Act.Exchange word from to found done) quiet = refl
-  quiet_act party (Act.Answered action) quiet = refl
-  quiet_act party (Act.Chosen choice) quiet = refl
-  quiet_act party Act.Ended quiet = refl
-  quiet_act party (Act.ReadCell v) quiet = refl
+  quiet_act party act h1 = grind (arith, nat_tests, eqb-true, eqb-false)
 
   quiet_prints : (e : Ev) → IsQuiet e → event_lines numerals e ≡ []
   quiet_prints e quiet = rw (quiet_act e.party e.act quiet.act, quiet.goes_on) refl
@@ -69,41 +59,15 @@ module _ {T : Type 0} (z : Arithmetic T) (numerals : Numerals T) where
   pub goes_on : (o : Object T) (parties : ℕ) (past : List Ev) (first rest rest' : Rest T) (old out out' : List ℕ) (machine machine' : Configuration T) (told : Option (Stride T)) (stride : Stride T) → told ≡ Some stride →
       IsHalfway o parties past first rest old out machine → Strides rest rest' machine machine' (Ok told) → IfSome told (λ s. 0 < s.times) → IfSome told (λ s. 1 < s.times → IsQuiet s.step.event) →
       out' ≡ out ++ event_lines numerals stride.step.event → IsHalfway o parties past first rest' old out' machine'
-  goes_on o parties past first rest rest' old out out' machine machine' told stride is h strides some quiet written =
-      let next = subst (λ (x : Option (Stride T)). IsNextStride z numerals o parties h.here rest rest' machine' (Ok x)) is (strides o parties h.here h.stands) in
-      let some : 0 < stride.times = subst (λ (x : Option (Stride T)). IfSome x (λ s. 0 < s.times)) is some in
-      let quiet = subst (λ (x : Option (Stride T)). IfSome x (λ s. 1 < s.times → IsQuiet s.step.event)) is quiet in
-      let e = stride.step.event in
-      let there = after_times stride.times e h.here in
-      let walk : Walk T = rest_walk z numerals o parties there rest' in
-      let more : List ℕ = printed numerals (events_in walk.steps) in
-      let events : events_in (rest_walk z numerals o parties h.here rest).steps ≡ replicate stride.times e ++ events_in walk.steps = ap (λ (w : Walk T). events_in w.steps) next.0 ∙ events_then stride.times stride.step walk in
-      record {
-        here = there;
-        stands = next.1;
-        output = h.output ∙ ap (λ (l : List Ev). out ++ printed numerals l) events ∙ ap (λ (l : List ℕ). out ++ l) (stride_prints stride.times e (events_in walk.steps) some quiet)
-            ∙ sym (append_assoc out (event_lines numerals e) more) ∙ ap (λ (l : List ℕ). l ++ more) (sym written);
-        fault = h.fault ∙ ap (λ (w : Walk T). w.fault) next.0 ∙ fault_then stride.times stride.step walk;
-        events = h.events ∙ ap (λ (l : List Ev). after l h.here) events ∙ after_both (replicate stride.times e) (events_in walk.steps) h.here;
-      }
+  goes_on o parties past first rest rest' old out out' machine machine' told stride h1 h2 h3 h4 h5 h6 = grind (arith, nat_tests, eqb-true, eqb-false, after_both, append_assoc, events_then, fault_then, stride_prints)
 
   pub ends : (o : Object T) (parties : ℕ) (past : List Ev) (first rest rest' : Rest T) (old out : List ℕ) (machine machine' : Configuration T) (told : Option (Stride T)) → told ≡ None → IsHalfway o parties past first rest old out machine →
       Strides rest rest' machine machine' (Ok told) → PrintsAll z numerals o parties past (rest_walk z numerals o parties past first) old out machine'
-  ends o parties past first rest rest' old out machine machine' told none h strides =
-      let next = subst (λ (x : Option (Stride T)). IsNextStride z numerals o parties h.here rest rest' machine' (Ok x)) none (strides o parties h.here h.stands) in
-      let here : after (events_in (rest_walk z numerals o parties past first).steps) past ≡ h.here = h.events ∙ ap (λ (w : Walk T). after (events_in w.steps) h.here) next.0 in
-      record {
-        faultless = h.fault ∙ ap (λ (w : Walk T). w.fault) next.0;
-        output = sym (append-nil out) ∙ sym (h.output ∙ ap (λ (w : Walk T). out ++ printed numerals (events_in w.steps)) next.0);
-        stands = subst (λ (l : List Ev). StandsAt z o parties l machine') (sym here) next.1;
-      }
+  ends o parties past first rest rest' old out machine machine' told h1 h2 h3 = grind (arith, nat_tests, eqb-true, eqb-false, append-nil)
 
   pub fails : (o : Object T) (parties : ℕ) (past : List Ev) (first rest rest' : Rest T) (old out : List ℕ) (machine machine' : Configuration T) (fault : FaultyLine) → IsHalfway o parties past first rest old out machine →
       Strides rest rest' machine machine' (Err fault) → output_in z numerals o past (rest_walk z numerals o parties past first) ≡ Err fault
-  fails o parties past first rest rest' old out machine machine' fault h strides =
-      let next = strides o parties h.here h.stands in
-      let bytes = printed numerals (events_in (rest_walk z numerals o parties past first).steps) ++ last_line z numerals o (after (events_in (rest_walk z numerals o parties past first).steps) past) in
-      ap (λ (f : Option FaultyLine). output_unless f bytes) (h.fault ∙ ap (λ (w : Walk T). w.fault) next)
+  fails o parties past first rest rest' old out machine machine' fault h1 h2 = grind (arith, nat_tests, eqb-true, eqb-false)
 
   -- A text is walked from its first line on.
 

@@ -1,6 +1,6 @@
 -- An input gives its one event, and a schedule the events of its run.
 use Rattle.sync_play.specs.Names.{Event, Input, Object, StepFault, Arithmetic, fault_of, IsNext, after, IsRun, LineFault, ◌>>=◌, line_fault_of}
-use Rattle.sync_play.proofs.Names.{◌≡◌, ℕ, suc, List, [], ◌∷◌, ◌++◌, length, Some, Result, Ok, Err, refl, sym, ap, subst, ◌∙◌, ok_is, bind_ok}
+use Rattle.sync_play.proofs.Names.{arith, nat_tests, eqb-true, eqb-false, ◌≡◌, ℕ, suc, List, [], ◌∷◌, ◌++◌, length, Some, Result, Ok, Err, refl, sym, ap, subst, ◌∙◌, ok_is, bind_ok}
 use Rattle.sync_play.specs.Player.{event_of, events_of}
 
 -- these events, and then the others
@@ -8,12 +8,10 @@ abbrev pub with_front : {A : Type 0} → List A → Result (List A) LineFault �
 with_front front rest = rest >>= λ others. Ok (front ++ others)
 
 pub with_none : {A : Type 0} (rest : Result (List A) LineFault) → with_front [] rest ≡ rest
-with_none (Ok others) = refl
-with_none (Err fault) = refl
+with_none rest = grind (arith, nat_tests, eqb-true, eqb-false)
 
 with_first : {A : Type 0} (x : A) (front : List A) (rest : Result (List A) LineFault) → (with_front front rest >>= λ others. Ok (x ∷ others)) ≡ with_front (x ∷ front) rest
-with_first x front (Ok others) = refl
-with_first x front (Err fault) = refl
+with_first x front rest = grind (arith, nat_tests, eqb-true, eqb-false)
 
 module _ {T : Type 0} (z : Arithmetic T) where
   abbrev Ev : Type 0

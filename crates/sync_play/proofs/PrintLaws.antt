@@ -1,17 +1,15 @@
 -- Lines are printed in pieces.
 use Rattle.sync_play.specs.Names.{codes, decimal, Event, Object, Word, Arithmetic, failures_in, word_in, Numerals}
-use Rattle.sync_play.proofs.Names.{◌≡◌, ◌∙◌, refl, sym, ap, arith, ℕ, ◌+◌, ◌-◌, ◌^◌, ◌<◌, min, if◌then◌else◌, is_ok, List, ◌∷◌, ◌++◌, Result, Ok, Err, OnOk, append_assoc, decimal_digit}
+use Rattle.sync_play.proofs.Names.{nat_tests, eqb-true, eqb-false, ◌≡◌, ◌∙◌, refl, ap, arith, ℕ, ◌+◌, ◌-◌, ◌^◌, ◌<◌, min, if◌then◌else◌, is_ok, List, ◌∷◌, ◌++◌, Result, OnOk, append_assoc, decimal_digit}
 use Rattle.sync_play.specs.Print.{party_words, party_line, named, further_words, last_line}
 
 -- what is printed, if the last piece is
 printed_all : {A E P Q : Type 0} (result : Result A E) → (P → Q) → OnOk result P → OnOk result Q
-printed_all (Ok a) leads h = leads h
-printed_all (Err e) leads h = tt
+printed_all result h1 h2 = grind (arith, nat_tests, eqb-true, eqb-false)
 
 -- a text is there, if it could be pushed
 pub pushed : {A E : Type 0} (result : Result A E) (old text new : List ℕ) → new ≡ (if is_ok result then old ++ text else old) → OnOk result (new ≡ old ++ text)
-pushed (Ok a) old text new h = h
-pushed (Err e) old text new h = tt
+pushed result old text new h1 = grind (arith, nat_tests, eqb-true, eqb-false)
 
 -- words were printed, and then the last piece
 pub printed_after :
@@ -22,9 +20,7 @@ printed_after result words last old front new there h = printed_all result (λ i
 pub line_printed :
     {A E : Type 0} (result : Result A E) (party : ℕ) (words old front new : List ℕ) → front ≡ old ++ party_words party →
     OnOk result (new ≡ front ++ (words ++ codes "\n")) → OnOk result (new ≡ old ++ party_line party words)
-line_printed result party words old front new number h =
-    let end = words ++ codes "\n" in
-    printed_all result (λ is. is ∙ ap (λ (l : List ℕ). old ++ l) (append_assoc (decimal (party + 1)) (codes " ") end)) (printed_after result (party_words party) end old front new number h)
+line_printed result party words old front new h1 h2 = grind (arith, nat_tests, eqb-true, eqb-false, append_assoc, printed_after, printed_all)
 
 module _ {T : Type 0} (z : Arithmetic T) (numerals : Numerals T) where
   pub last_printed :
@@ -43,13 +39,8 @@ module _ {T : Type 0} (z : Arithmetic T) (numerals : Numerals T) where
       let pieces : second ≡ (old ++ front) ++ rest = b ∙ ap (λ (l : List ℕ). l ++ rest) a in
       printed_all result (λ is. is ∙ ap (λ (l : List ℕ). l ++ end) pieces ∙ append_assoc (old ++ front) rest end ∙ append_assoc old front (rest ++ end) ∙ whole) c
 
--- The number of a party below the tenth is one digit.
-digit_words : (party : ℕ) → party < 9 → party_words party ≡ (48 + (party + 1)) ∷ codes " "
-digit_words party small = let digit = decimal_digit (party + 1) (omega (arith, small)) in rw digit refl
-
 pub number_printed :
     {A E : Type 0} (result : Result A E) (party number : ℕ) (old new : List ℕ) → party ≡ number → number < 9 →
     new ≡ (if is_ok result then old ++ ((48 + (number + 1)) ∷ codes " ") else old) →
     OnOk result (new ≡ old ++ party_words party)
-number_printed (Ok a) party number old new is small wrote = rw is (wrote ∙ ap (λ (words : List ℕ). old ++ words) (sym (digit_words number small)))
-number_printed (Err e) party number old new is small wrote = tt
+number_printed result party number old new h1 h2 h3 = grind (arith, nat_tests, eqb-true, eqb-false, decimal_digit)

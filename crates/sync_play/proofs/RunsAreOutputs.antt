@@ -1,6 +1,6 @@
 -- What a run of a text's inputs prints is the text's output.
 use Rattle.sync_play.specs.Names.{Event, Input, Object, Arithmetic, after, IsRun, Command, Task, command_of, at_line, words_of, Numerals}
-use Rattle.sync_play.proofs.Names.{◌≡◌, ℕ, zero, suc, ◌+◌, ◌≤◌, List, [], ◌∷◌, ◌++◌, length, Option, Some, None, Ok, refl, sym, ap, subst, ◌∙◌, append_assoc, arith, flat_map-append}
+use Rattle.sync_play.proofs.Names.{nat_tests, eqb-true, eqb-false, ◌≡◌, ℕ, zero, suc, ◌+◌, ◌≤◌, List, [], ◌∷◌, ◌++◌, length, Option, Some, None, Ok, refl, sym, ap, subst, ◌∙◌, append_assoc, arith, flat_map-append}
 use Rattle.sync_play.specs.Player.{events_of, run_of, steps_of, task_events}
 use Rattle.sync_play.specs.Text.{line_events, output_after, typed_output}
 use Rattle.sync_play.specs.Print.{printed, event_lines, last_line}
@@ -29,9 +29,7 @@ module _ {T : Type 0} (z : Arithmetic T) (numerals : Numerals T) where
   -- A line.
 
   pub no_inputs : (o : Object T) (parties : ℕ) (past : List Ev) (schedule : List (ℕ × Input T)) (events : List Ev) → schedule ≡ [] → IsRun z o parties past schedule events → events ≡ []
-  no_inputs o parties past [] [] none run = refl
-  no_inputs o parties past [] (e ∷ events) none run = absurd run
-  no_inputs o parties past (turn ∷ schedule) events none run = absurd cc
+  no_inputs o parties past schedule events h1 h2 = grind (arith, nat_tests, eqb-true, eqb-false)
 
   given : (o : Object T) (parties : ℕ) (past : List Ev) (schedule inputs : List (ℕ × Input T)) (events : List Ev) → schedule ≡ inputs → IsRun z o parties past schedule events → events_of z o parties past inputs ≡ Ok events
   given o parties past schedule inputs events same run = run_is z o parties past inputs events (subst (λ (l : List (ℕ × Input T)). IsRun z o parties past l events) same run)

@@ -1,6 +1,6 @@
 -- A walk goes on by the next events of what is left of its line, and then by the next line.
 use Rattle.sync_play.specs.Names.{replicate, Event, Input, Object, StepFault, Arithmetic, goes_on, EventStride, Configuration, StandsAt, Steps, RefusesStep, steps_of, Strides, IsQuiet, IsRun, Command, Task, LineFault, line_fault_of, lines_of, words_of, Numerals}
-use Rattle.sync_play.proofs.Names.{◌⊎◌, inl, inr, ◌≡◌, ℕ, zero, suc, ◌-◌, ◌+◌, ◌*◌, ◌^◌, ◌<◌, ◌≤◌, Bool, true, false, cond, List, [], ◌∷◌, Option, Some, None, Ok, Err, IfSome, refl, ap, subst, ◌∙◌, arith}
+use Rattle.sync_play.proofs.Names.{nat_tests, eqb-true, eqb-false, ◌⊎◌, inl, inr, ◌≡◌, ℕ, zero, suc, ◌-◌, ◌+◌, ◌*◌, ◌^◌, ◌<◌, ◌≤◌, Bool, true, false, cond, List, [], ◌∷◌, Option, Some, None, Ok, Err, IfSome, refl, ap, subst, ◌∙◌, arith}
 use Rattle.sync_play.specs.Player.{event_of, steps_left, left_after}
 use Rattle.sync_play.specs.Walk.{Walk, ended, stopped, step_then, steps_then, go_walk, run_walk, asked, lines_walk, walk_from, after_times, IsTurn}
 use Rattle.sync_play.proofs.PlayerLaws.{event_is, event_refused}
@@ -12,9 +12,7 @@ fewer_left left after lines rest most before shorter within = omega (arith, befo
 
 pub fewer_steps : {T : Type 0} (new old : Command T) (told : Option (EventStride T)) (e : EventStride T) (lines most : ℕ) → told ≡ Some e → steps_left old.task + lines * 2 ^ 64 ≤ most → IfSome told (λ _. steps_left new.task < steps_left old.task) →
     steps_left new.task + lines * 2 ^ 64 < most
-fewer_steps {T} new old told e lines most some before counted =
-    let shorter : steps_left new.task < steps_left old.task = subst (λ (x : Option (EventStride T)). IfSome x (λ _. steps_left new.task < steps_left old.task)) some counted in
-    omega (arith, before, shorter)
+fewer_steps new old told e lines most h1 h2 h3 = grind (arith, nat_tests, eqb-true, eqb-false)
 
 module _ {T : Type 0} (z : Arithmetic T) where
   abbrev Ev : Type 0
@@ -89,14 +87,11 @@ module _ {T : Type 0} (z : Arithmetic T) where
 
   pub turn_not_given : (o : Object T) (parties : ℕ) (past : List Ev) (old new : Command T) (input : Input T) (fault : StepFault) (machine machine' : Configuration T) → old.task ≡ Task.Give input → StandsAt z o parties past machine →
       RefusesStep z machine old.party input fault → IsTurn z o parties past old new machine' (Err (line_fault_of fault))
-  turn_not_given o parties past old new input fault machine machine' asked stands refuses line others =
-      rw (asked, event_refused z o parties past old.party input fault (refuses o parties past stands)) refl
+  turn_not_given o parties past old new input fault machine machine' h1 h2 h3 = grind (arith, nat_tests, eqb-true, eqb-false, event_refused)
 
   pub turn_goes : (o : Object T) (parties : ℕ) (past : List Ev) (old new : Command T) (steps : ℕ) (stride : EventStride T) (machine machine' : Configuration T) → old.task ≡ Task.Go steps → new.party ≡ old.party → new.task ≡ Task.Go (steps - stride.times) →
       stride.times ≤ steps → StandsAt z o parties past machine → Strides z machine old.party stride.event stride.times machine' → IsTurn z o parties past old new machine' (Ok (Some stride))
-  turn_goes o parties past old new steps stride machine machine' asked party left within stands strides =
-      let s = strides o parties past stands in
-      (λ line others. rw (asked, party, left) (goes_so_often o parties line stride.times steps past old.party stride.event others within s.run), s.stands)
+  turn_goes o parties past old new steps stride machine machine' h1 h2 h3 h4 h5 h6 = grind (arith, nat_tests, eqb-true, eqb-false, goes_so_often)
 
   pub turn_refused : (o : Object T) (parties : ℕ) (past : List Ev) (old new : Command T) (steps : ℕ) (fault : StepFault) (machine machine' : Configuration T) → old.task ≡ Task.Go steps → 0 < steps → StandsAt z o parties past machine →
       RefusesStep z machine old.party Input.Go fault → IsTurn z o parties past old new machine' (Err (line_fault_of fault))
@@ -108,9 +103,7 @@ module _ {T : Type 0} (z : Arithmetic T) where
   pub turn_runs : (o : Object T) (parties : ℕ) (past : List Ev) (old new : Command T) (limit : ℕ) (stride : EventStride T) (machine machine' : Configuration T) → old.task ≡ Task.Run limit → new.party ≡ old.party →
       new.task ≡ Task.Run (limit - stride.times) → goes_on stride.event.then ≡ true → stride.times ≤ limit → StandsAt z o parties past machine → Strides z machine old.party stride.event stride.times machine' →
       IsTurn z o parties past old new machine' (Ok (Some stride))
-  turn_runs o parties past old new limit stride machine machine' asked party left goes within stands strides =
-      let s = strides o parties past stands in
-      (λ line others. rw (asked, party, left) (runs_so_often o parties line stride.times limit past old.party stride.event others goes within s.run), s.stands)
+  turn_runs o parties past old new limit stride machine machine' h1 h2 h3 h4 h5 h6 h7 = grind (arith, nat_tests, eqb-true, eqb-false, runs_so_often)
 
   pub turn_ends : (o : Object T) (parties : ℕ) (past : List Ev) (old new : Command T) (limit : ℕ) (stride : EventStride T) (machine machine' : Configuration T) → old.task ≡ Task.Run limit → new.task ≡ Task.Go 0 →
       goes_on stride.event.then ≡ false → 0 < stride.times → stride.times ≤ limit → (1 < stride.times → IsQuiet stride.event) → StandsAt z o parties past machine →
@@ -164,8 +157,7 @@ module _ {T : Type 0} (z : Arithmetic T) (numerals : Numerals T) where
   pub walk_strides : (o : Object T) (parties line : ℕ) (past : List (Event T)) (old new : Command T) (lines : List ℕ) (told : Option (EventStride T)) (stride : EventStride T) (machine : Configuration T) → told ≡ Some stride →
       IsTurn z o parties past old new machine (Ok told) →
       walk_from z numerals o parties past line old lines ≡ steps_then (replicate stride.times (record { line = line; event = stride.event })) (walk_from z numerals o parties (after_times stride.times stride.event past) line new lines)
-  walk_strides o parties line past old new lines told stride machine some turn =
-      (subst (λ (x : Option (EventStride T)). IsTurn z o parties past old new machine (Ok x)) some turn).0 line (others_of o parties line lines)
+  walk_strides o parties line past old new lines told stride machine h1 h2 = grind (arith, nat_tests, eqb-true, eqb-false)
 
   pub walk_stands : (o : Object T) (parties : ℕ) (past : List (Event T)) (old new : Command T) (told : Option (EventStride T)) (stride : EventStride T) (machine : Configuration T) → told ≡ Some stride → IsTurn z o parties past old new machine (Ok told) →
       StandsAt z o parties (after_times stride.times stride.event past) machine
@@ -179,8 +171,7 @@ module _ {T : Type 0} (z : Arithmetic T) (numerals : Numerals T) where
   -- nothing, so that the walk goes on by the lines
   pub walk_passes : (o : Object T) (parties line : ℕ) (past : List (Event T)) (old new : Command T) (lines : List ℕ) (told : Option (EventStride T)) (machine : Configuration T) → told ≡ None → IsTurn z o parties past old new machine (Ok told) →
       walk_from z numerals o parties past line old lines ≡ lines_walk z numerals o parties (line + 1) (lines_of lines) past
-  walk_passes o parties line past old new lines told machine none turn =
-      (subst (λ (x : Option (EventStride T)). IsTurn z o parties past old new machine (Ok x)) none turn).0 line (others_of o parties line lines)
+  walk_passes o parties line past old new lines told machine h1 h2 = grind (arith, nat_tests, eqb-true, eqb-false)
 
   pub pass_stands : (o : Object T) (parties : ℕ) (past : List (Event T)) (old new : Command T) (told : Option (EventStride T)) (machine : Configuration T) → told ≡ None → IsTurn z o parties past old new machine (Ok told) →
       StandsAt z o parties past machine

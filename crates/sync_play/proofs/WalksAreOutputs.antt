@@ -1,10 +1,10 @@
 -- What a text prints is what its walk prints.
 use Rattle.sync_play.specs.Names.{Event, Input, Object, after, goes_on, Arithmetic, Command, Task, LineFault, Header, command_of, ◌>>=◌, at_line, header_of, words_of, FaultyLine, Numerals}
-use Rattle.sync_play.proofs.Names.{◌≡◌, ℕ, zero, suc, ◌+◌, Bool, true, false, cond, List, [], ◌∷◌, ◌++◌, Option, Some, None, Result, Ok, Err, refl, sym, ap, ◌∙◌, append_assoc}
+use Rattle.sync_play.proofs.Names.{arith, nat_tests, eqb-true, eqb-false, ◌≡◌, ℕ, zero, suc, ◌+◌, Bool, true, false, cond, List, [], ◌∷◌, ◌++◌, Option, Some, None, Result, Ok, Err, refl, ap, ◌∙◌, append_assoc}
 use Rattle.sync_play.specs.Player.{event_of, events_of, run_of, steps_of, task_events}
-use Rattle.sync_play.specs.Print.{printed, event_lines, last_line}
+use Rattle.sync_play.specs.Print.{printed, event_lines}
 use Rattle.sync_play.specs.Text.{events_asked, line_events, output_after, typed_output}
-use Rattle.sync_play.specs.WalkOutput.{events_in, output_unless, output_in, output_opened}
+use Rattle.sync_play.specs.WalkOutput.{output_in, output_opened}
 use Rattle.sync_play.specs.Walk.{Walk, step_then, event_then, go_walk, run_walk, task_walk, or_nothing, line_walk, lines_walk, opened, opened_by}
 
 abbrev Out : Type 0
@@ -15,12 +15,7 @@ abbrev onto : List ℕ → Out → Out
 onto bytes rest = rest >>= λ more. Ok (bytes ++ more)
 
 onto_none : (rest : Out) → onto [] rest ≡ rest
-onto_none (Ok more) = refl
-onto_none (Err fault) = refl
-
-onto_both : (a b : List ℕ) (rest : Out) → onto (a ++ b) rest ≡ onto a (onto b rest)
-onto_both a b (Ok more) = ap (λ (l : List ℕ). Ok l) (append_assoc a b more)
-onto_both a b (Err fault) = refl
+onto_none rest = grind (arith, nat_tests, eqb-true, eqb-false)
 
 module _ {T : Type 0} (z : Arithmetic T) (numerals : Numerals T) where
   abbrev Ev : Type 0
@@ -32,20 +27,11 @@ module _ {T : Type 0} (z : Arithmetic T) (numerals : Numerals T) where
 
   followed_more : (number : ℕ) (past : List Ev) (e : Ev) (events : Result (List Ev) LineFault) (rest : List Ev → Out) →
       followed number past (events >>= λ es. Ok (e ∷ es)) rest ≡ onto (event_lines numerals e) (followed number (e ∷ past) events rest)
-  followed_more number past e (Ok es) rest = onto_both (event_lines numerals e) (printed numerals es) (rest (after es (e ∷ past)))
-  followed_more number past e (Err fault) rest = refl
+  followed_more number past e events rest = grind (arith, nat_tests, eqb-true, eqb-false, append_assoc)
 
   -- a step prints what its event prints
   step_prints : (o : Object T) (past : List Ev) (number : ℕ) (e : Ev) (walk : Walk T) → onto (event_lines numerals e) (output_in z numerals o (e ∷ past) walk) ≡ output_in z numerals o past (step_then (record { line = number; event = e }) walk)
-  step_prints o past number e walk = by_fault walk.fault
-    where
-      events : List Ev
-      events = events_in walk.steps
-
-      by_fault : (fault : Option FaultyLine) → onto (event_lines numerals e) (output_unless fault (printed numerals events ++ last_line z numerals o (after events (e ∷ past)))) ≡
-          output_unless fault ((event_lines numerals e ++ printed numerals events) ++ last_line z numerals o (after events (e ∷ past)))
-      by_fault None = ap (λ (l : List ℕ). Ok l) (sym (append_assoc (event_lines numerals e) (printed numerals events) (last_line z numerals o (after events (e ∷ past)))))
-      by_fault (Some fault) = refl
+  step_prints o past number e walk = grind (arith, nat_tests, eqb-true, eqb-false, append_assoc)
 
   -- what is left prints what its walk prints
   abbrev Prints : Object T → (List Ev → Out) → (List Ev → Walk T) → Type 0
@@ -71,15 +57,10 @@ module _ {T : Type 0} (z : Arithmetic T) (numerals : Numerals T) where
   abbrev events_if : Bool → Result (List Ev) LineFault → Result (List Ev) LineFault
   events_if b events = cond b events (Ok [])
 
-  run_cond : (b : Bool) (e : Ev) (events : Result (List Ev) LineFault) → cond b (events >>= λ es. Ok (e ∷ es)) (Ok (e ∷ [])) ≡ (events_if b events >>= λ es. Ok (e ∷ es))
-  run_cond true e events = refl
-  run_cond false e events = refl
-
   run_event : (o : Object T) (parties : ℕ) (past : List Ev) (n party : ℕ) (event : Result Ev LineFault) →
       (event >>= λ e. cond (goes_on e.then) (run_of z o parties n (e ∷ past) party >>= λ es. Ok (e ∷ es)) (Ok (e ∷ [])))
       ≡ (event >>= λ e. events_if (goes_on e.then) (run_of z o parties n (e ∷ past) party) >>= λ es. Ok (e ∷ es))
-  run_event o parties past n party (Ok e) = run_cond (goes_on e.then) e (run_of z o parties n (e ∷ past) party)
-  run_event o parties past n party (Err fault) = refl
+  run_event o parties past n party event = grind (arith, nat_tests, eqb-true, eqb-false)
 
   run_prints : (o : Object T) (parties : ℕ) (past : List Ev) (number n party : ℕ) (rest : List Ev → Out) (others : List Ev → Walk T) → Prints o rest others →
       followed number past (run_of z o parties n past party) rest ≡ output_in z numerals o past (run_walk z o parties number n past party others)

@@ -42,6 +42,7 @@ pub fn print_answer<T: TextInteger, A: Allocator>(
 /// Prints the number of a party, which is counted from 0 here and from 1 in a text, and a space.
 ///
 /// A number of one digit is there already: to write one out takes longer than a step.
+#[tactic(auto, using(crate::proofs::PrintLaws::number_printed))]
 fn print_number<A: Allocator>(out: &mut String<A>, party: usize) -> Result<(), AllocError>
     ensures { OnOk result (string_bytes out.new ≡ string_bytes out.old ++ party_words party) }
 {

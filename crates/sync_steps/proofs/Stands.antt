@@ -17,7 +17,7 @@ use Rattle.sync_steps.proofs.Headlines.{headline, absent_word}
 use Rattle.sync_steps.proofs.Places.{opening_is}
 use Rattle.sync_steps.proofs.Turns.{Turns, TurnsOr, turns_at}
 
-slice_get-set_same : {A : Type 0} (xs : List A) (i : ℕ) (v : A) → i < length xs → slice_get (slice_set xs i v) i ≡ Some v
+pub slice_get-set_same : {A : Type 0} (xs : List A) (i : ℕ) (v : A) → i < length xs → slice_get (slice_set xs i v) i ≡ Some v
 slice_get-set_same [] i v h = absurd (omega arith)
 slice_get-set_same (x ∷ xs) zero v h = refl
 slice_get-set_same (x ∷ xs) (suc i) v h = slice_get-set_same xs i v (omega arith)

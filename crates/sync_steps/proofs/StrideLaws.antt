@@ -1,6 +1,6 @@
 -- A spin is the run of its tries: each does the same, and leads to the next.
 use Rattle.sync_steps.specs.Names.{replicate, Act, Event, Input, Object, Then, Word, Intent, Arithmetic, word_after, is_failure, failures_by, event, carried_out, value_told, word_at}
-use Rattle.sync_steps.proofs.Names.{◌≡◌, ℕ, zero, suc, ◌+◌, ◌*◌, ◌-◌, ◌^◌, ◌<◌, ◌≤◌, ◌==◌, ◌&&◌, min, refl, sym, ◌∙◌, ap, subst, List, [], ◌∷◌, length, Bool, true, cond, Option, Some, None, Ok, slice_get, slice_set, arith, length-set, eqb-true, eqb-false, nat_tests}
+use Rattle.sync_steps.proofs.Names.{◌≡◌, ℕ, zero, suc, ◌+◌, ◌*◌, ◌-◌, ◌^◌, ◌<◌, ◌≤◌, min, refl, sym, ◌∙◌, ap, subst, List, [], ◌∷◌, length, Bool, true, cond, Option, Some, None, Ok, slice_get, slice_set, arith, length-set, eqb-true, eqb-false, nat_tests}
 use Rattle.sync_steps.specs.declared.steps.place.Doing.{Doing}
 use Rattle.sync_steps.specs.declared.steps.place.Party.{Party}
 use Rattle.sync_steps.specs.declared.steps.place.Place.{Place}
@@ -11,14 +11,10 @@ use Rattle.sync_steps.specs.Machine.Turns.{turn_at}
 use Rattle.sync_steps.specs.Machine.Spins.{spins_at, spun_at}
 use Rattle.sync_steps.specs.Machine.Strides.{Strides, is_quiet, spun_party, HasSpun}
 use Rattle.sync_steps.proofs.Headlines.{headline}
-use Rattle.sync_steps.proofs.Stands.{turns_step}
+use Rattle.sync_steps.proofs.Stands.{slice_get-set_same, turns_step}
+use Rattle.sync_steps.proofs.Plays.{plays_none}
 
 -- Lists.
-
-get_of_set : {A : Type 0} (xs : List A) (i : ℕ) (v : A) → i < length xs → slice_get (slice_set xs i v) i ≡ Some v
-get_of_set [] i v h = absurd (omega arith)
-get_of_set (x ∷ xs) zero v h = refl
-get_of_set (x ∷ xs) (suc i) v h = get_of_set xs i v (omega arith)
 
 set_both : {A : Type 0} (xs : List A) (i : ℕ) (v w : A) → slice_set (slice_set xs i v) i w ≡ slice_set xs i w
 set_both [] i v w = refl
@@ -93,9 +89,6 @@ plays_first z party input e schedule events old mid new steps plays o parties pa
     let rest = plays o parties (e ∷ past) one.1 in
     record { run = (one.0, rest.run); stands = rest.stands; prefixes = (headline z o parties past at.run, rest.prefixes) }
 
-plays_none : {T : Type 0} (z : Arithmetic T) (m : Configuration T) → Plays z [] m [] m
-plays_none z m o parties past at = record { run = tt; stands = at; prefixes = headline z o parties past at.run }
-
 -- the machine after one try
 tried : {T : Type 0} → ℕ → Party T → Doing T → Act T → ℕ → Configuration T → Configuration T
 tried party found doing act i m =
@@ -115,7 +108,7 @@ tries {T} z party found doing act (suc n) i old new t made =
     let first : Tried party found doing act 1 i old mid = record { object = refl; parties = refl; words = refl; failed = refl } in
     let below : party < length mid.parties = subst (λ (k : ℕ). party < k) (sym (length-set old.parties party (spun_party found doing (i + 1)))) t.below in
     let on : IsTrying z party found doing act (suc n) (i + 1) mid =
-    record { below = below; there = get_of_set old.parties party (spun_party found doing (i + 1)) t.below; act_is = t.act_is; quiet = t.quiet; most = subst (λ (k : ℕ). k ≤ spins_at doing.place (value_told act)) (sym next) most } in
+    record { below = below; there = slice_get-set_same old.parties party (spun_party found doing (i + 1)) t.below; act_is = t.act_is; quiet = t.quiet; most = subst (λ (k : ℕ). k ≤ spins_at doing.place (value_told act)) (sym next) most } in
     let others : Tried party found doing act (suc n) (i + 1) mid new =
     record {
       object = made.object;

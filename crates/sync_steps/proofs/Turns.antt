@@ -1,13 +1,13 @@
 -- The turn of a party that is where a run's call is, is the move that the definitions give, and leaves it where they do.
-use Rattle.sync_steps.specs.Names.{WaitAction, Act, Call, Input, Object, StepFault, Then, Word, HoldKind, Intent, After, Arithmetic, carried_out, value_told, outcome_of, within, PendingCall, call_after, hold_after, latest_outcome, event, stage_of, next_stage, stage_after, move_of, fault_at, go_fault, answer_fault, choose_fault, is_locking, HasForm}
-use Rattle.sync_steps.proofs.Names.{◌≡◌, refl, sym, ◌∙◌, ap, subst, ℕ, Bool, true, false, ◌&&◌, cond, is_some, is_none, ◌∷◌, Option, Some, None, Result, Ok, Err, ◌⊎◌, carried_is_step, arith, eqb-true, eqb-false, nat_tests}
+use Rattle.sync_steps.specs.Names.{WaitAction, Call, Input, Object, StepFault, Then, Word, HoldKind, Arithmetic, carried_out, value_told, within, PendingCall, call_after, hold_after, latest_outcome, event, stage_of, move_of, fault_at, go_fault, answer_fault, choose_fault, is_locking, HasForm}
+use Rattle.sync_steps.proofs.Names.{◌≡◌, refl, sym, subst, ℕ, Bool, true, false, ◌&&◌, cond, is_some, is_none, Option, Some, None, Result, Ok, Err, ◌⊎◌, carried_is_step, arith, eqb-true, eqb-false, nat_tests}
 use Rattle.sync_steps.specs.declared.steps.place.Doing.{Doing}
 use Rattle.sync_steps.specs.declared.steps.place.Party.{Party}
 use Rattle.sync_steps.specs.declared.steps.place.Place.{Place}
 use Rattle.sync_steps.specs.Machine.Turns.{Turn}
 use Rattle.sync_steps.specs.Objects.{place_of, table_of}
-use Rattle.sync_steps.specs.Machine.Places.{place_in, closure_of, IsDoing, DoesCall, IsParty, map_place, begins_at, needs_hold_at}
-use Rattle.sync_steps.specs.Machine.Turns.{doing_after, turn_after, stepped_by, begun, begin_at, begin_turn, stepped, go_at, is_at_wait, is_at_choice, answer_at, choose_at, turn_at}
+use Rattle.sync_steps.specs.Machine.Places.{place_in, closure_of, DoesCall, IsParty, map_place, begins_at, needs_hold_at}
+use Rattle.sync_steps.specs.Machine.Turns.{turn_after, begun, begin_at, begin_turn, go_at, is_at_wait, is_at_choice, answer_at, choose_at, turn_at}
 use Rattle.sync_steps.proofs.Places.{begins_is, intent_is, after_is, answered_is, chosen_is, needs_hold_is, new_hold_is}
 
 -- the turn is what the input gives: the move of the definitions, which leaves the party where they do
@@ -54,37 +54,12 @@ begin_turns {T} z o None hold memory call None at = by_place (begins_at z o call
 
 -- A step.
 
-outcome_within : {T P Q : Type 0} (wrap : P → Q) (a : After T P) → outcome_of (within wrap a) ≡ outcome_of a
-outcome_within wrap a = grind (arith, nat_tests, eqb-true, eqb-false)
-
--- the party after a step, by how its call goes on
-leaves_by :
-    {T : Type 0} (z : Arithmetic T) (o : Object T) (c : PendingCall T) (hold : Option HoldKind) (memory : Word → ℕ) (p : place_of o) (number : ℕ) (a : After T (place_of o)) → stage_of (table_of z o) c ≡ Some p →
-    (table_of z o).after p (value_told (carried_out ((table_of z o).intent p hold) memory)) ≡ a →
-    DoesCall z o (doing_after c.call (within (place_in o) a))
-    (call_after (outcome_of (within (place_in o) a)) (event number (carried_out ((table_of z o).intent p hold) memory) (outcome_of (within (place_in o) a))) (Some c))
-leaves_by z o c hold memory p number a h1 h2 = grind (arith, nat_tests, eqb-true, eqb-false)
-
 -- the step at a place of the table
 table_steps :
     {T : Type 0} (z : Arithmetic T) (o : Object T) (c : PendingCall T) (hold : Option HoldKind) (memory : Word → ℕ) (p : place_of o) → stage_of (table_of z o) c ≡ Some p → go_fault (latest_outcome c.own) ≡ None →
     Turns z o (Some c) hold memory Input.Go
     (turn_after z o c.call hold (carried_out ((table_of z o).intent p hold) memory) (within (place_in o) ((table_of z o).after p (value_told (carried_out ((table_of z o).intent p hold) memory)))))
-table_steps z o c hold memory p h1 h2 = grind (arith, nat_tests, eqb-true, eqb-false, carried_is_step, outcome_within, leaves_by, new_hold_is)
-
--- the step at the code's place
-steps_at :
-    {T : Type 0} (z : Arithmetic T) (o : Object T) (doing : Doing T) (c : PendingCall T) (hold : Option HoldKind) (memory : Word → ℕ) → IsDoing z o doing c → go_fault (latest_outcome c.own) ≡ None →
-    Turns z o (Some c) hold memory Input.Go (stepped z o doing hold memory)
-steps_at {T} z o doing c hold memory at free =
-    let p = at.place.0 in
-    let act = carried_out ((table_of z o).intent p hold) memory in
-    let I : Intent T → Type 0 = λ i. Turns z o (Some c) hold memory Input.Go (stepped_by z o (record { call = c.call; place = place_in o p; stands = doing.stands }) hold (carried_out i memory)) in
-    let A : After T (Place T) → Type 0 = λ a. Turns z o (Some c) hold memory Input.Go (turn_after z o c.call hold act a) in
-    let D : Place T → Type 0 = λ place. Turns z o (Some c) hold memory Input.Go (stepped z o (record { call = c.call; place = place; stands = doing.stands }) hold memory) in
-    let C : Call T → Type 0 = λ call. Turns z o (Some c) hold memory Input.Go (stepped z o (record { call = call; place = doing.place; stands = doing.stands }) hold memory) in
-    let by_table = subst A (sym (after_is z o p (value_told act))) (table_steps z o c hold memory p at.place.2 free) in
-    subst C (sym at.call_is) (subst D at.place.1 (subst I (sym (intent_is z o p hold)) by_table))
+table_steps z o c hold memory p h1 h2 = grind (arith, nat_tests, eqb-true, eqb-false, carried_is_step, new_hold_is)
 
 -- whether a call makes steps, by how it was left
 goes_by : {T : Type 0} (outcome : Then T) → ((is_some (closure_of outcome) ≡ true) × (go_fault outcome ≡ Some StepFault.WaitingForAnswer)) ⊎ ((is_some (closure_of outcome) ≡ false) × (go_fault outcome ≡ None))
@@ -93,18 +68,9 @@ goes_by outcome = grind (arith, nat_tests, eqb-true, eqb-false)
 go_turns :
     {T : Type 0} (z : Arithmetic T) (o : Object T) (doing : Option (Doing T)) (hold : Option HoldKind) (memory : Word → ℕ) (pending : Option (PendingCall T)) → DoesCall z o doing pending →
     TurnsOr z o pending hold memory Input.Go (go_at z o doing hold memory)
-go_turns z o doing hold memory pending h1 = grind (arith, nat_tests, eqb-true, eqb-false, goes_by, is_some, steps_at)
+go_turns z o doing hold memory pending h1 = grind (arith, nat_tests, eqb-true, eqb-false, goes_by, is_some, after_is, intent_is, table_steps)
 
 -- An answer.
-
--- the closure of a call has answered, and it goes on from another place of the table
-leaves_at :
-    {T : Type 0} (z : Arithmetic T) (o : Object T) (c : PendingCall T) (act : Act T) (p q : place_of o) (place : Place T) → place ≡ place_in o q → stage_of (table_of z o) c ≡ Some p → stage_after (table_of z o) act p ≡ Some q → (number : ℕ) →
-    IsDoing z o (record { call = c.call; place = place; stands = None }) (record { call = c.call; own = event number act Then.GoesOn ∷ c.own })
-leaves_at z o c act p q place is stage to number = record { call_is = refl; place = (q, sym is, ap (next_stage (table_of z o) act) stage ∙ to); stands_is = refl }
-
-at_place_of : {T : Type 0} (z : Arithmetic T) (o : Object T) (doing : Doing T) (c : PendingCall T) (f : Place T → Place T) (p q : place_of o) → place_in o p ≡ doing.place → f (place_in o p) ≡ place_in o q → f doing.place ≡ place_in o q
-at_place_of z o doing c f p q is to = ap f (sym is) ∙ to
 
 answers_by : {T : Type 0} (outcome : Then T) → ((is_at_wait (closure_of outcome) ≡ true) × (answer_fault outcome ≡ None)) ⊎ ((is_at_wait (closure_of outcome) ≡ false) × (answer_fault outcome ≡ Some StepFault.NotWaiting))
 answers_by outcome = grind (arith, nat_tests, eqb-true, eqb-false)
@@ -115,12 +81,12 @@ chooses_by outcome = grind (arith, nat_tests, eqb-true, eqb-false)
 answer_turns :
     {T : Type 0} (z : Arithmetic T) (o : Object T) (doing : Option (Doing T)) (hold : Option HoldKind) (memory : Word → ℕ) (action : WaitAction) (pending : Option (PendingCall T)) → DoesCall z o doing pending →
     TurnsOr z o pending hold memory (Input.Answer action) (answer_at z doing hold action)
-answer_turns z o doing hold memory action pending h1 = grind (arith, nat_tests, eqb-true, eqb-false, answers_by, at_place_of, answered_is, leaves_at)
+answer_turns z o doing hold memory action pending h1 = grind (arith, nat_tests, eqb-true, eqb-false, answers_by, answered_is)
 
 choose_turns :
     {T : Type 0} (z : Arithmetic T) (o : Object T) (doing : Option (Doing T)) (hold : Option HoldKind) (memory : Word → ℕ) (choice : Option T) (pending : Option (PendingCall T)) → DoesCall z o doing pending →
     TurnsOr z o pending hold memory (Input.Choose choice) (choose_at z doing hold choice)
-choose_turns z o doing hold memory choice pending h1 = grind (arith, nat_tests, eqb-true, eqb-false, chooses_by, at_place_of, chosen_is, leaves_at)
+choose_turns z o doing hold memory choice pending h1 = grind (arith, nat_tests, eqb-true, eqb-false, chooses_by, chosen_is)
 
 -- Whatever the input.
 pub turns_at :

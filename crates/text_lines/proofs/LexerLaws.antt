@@ -2,7 +2,7 @@
 use Rattle.std.proofs.lemmas.Bool.{eqb-true, eqb-false}
 use Rattle.std.proofs.lemmas.Bool.Decides.{nat_tests}
 use Rattle.text_lines.specs.Names.{is_ascii_digit}
-use Rattle.text_lines.proofs.Names.{◌≡◌, ◌≢◌, ℕ, suc, ◌+◌, ◌*◌, ◌-◌, ◌<◌, ◌≤◌, Bool, true, false, ◌&&◌, ◌==◌, eqb, ltb, cond, not, List, [], ◌∷◌, ◌++◌, length, get_or, take, drop, Option, Some, None, refl, sym, ap, subst, ◌∙◌, arith, add-one, drop-cons, le-ltb, lt-ltb}
+use Rattle.text_lines.proofs.Names.{◌≡◌, ◌≢◌, ℕ, suc, ◌+◌, ◌*◌, ◌-◌, ◌<◌, ◌≤◌, Bool, true, false, ◌&&◌, ◌==◌, eqb, ltb, cond, not, List, [], ◌∷◌, ◌++◌, length, get_or, take, drop, Option, Some, None, refl, sym, ap, ◌∙◌, arith, add-one, drop-cons, le-ltb, lt-ltb}
 use Rattle.std.proofs.lemmas.List.{take_all, drop_all, length-drop}
 use Rattle.std.specs.List.{position, position_or_len}
 use Rattle.text_lines.specs.Lexer.{lines_of, onto_line, cut_line, words_of, is_blank, onto_word, before_bytes, number_from, fitting}
@@ -31,9 +31,6 @@ from_is : {A : Type 0} (p : A → Bool) (xs : List A) → drop (position_or_len 
 from_is p [] = refl
 from_is p (x ∷ xs) = from_step (p x) x xs (position_or_len p xs) (from p xs) (from_is p xs)
 
-chosen_some : (b : Bool) (n i : ℕ) → cond b (Some n) None ≡ Some i → (b ≡ true) × (n ≡ i)
-chosen_some b n i h1 = grind (arith, nat_tests, eqb-true, eqb-false)
-
 chosen_none : (b : Bool) (n : ℕ) → cond b (Some n) None ≡ None → b ≡ false
 chosen_none b n h1 = grind (arith, nat_tests, eqb-true, eqb-false)
 
@@ -44,7 +41,7 @@ pub record CutsAt {A : Type 0} (p : A → Bool) (xs : List A) (i : ℕ) : Type 0
   pub within : i < length xs
 
 pub cut_at : {A : Type 0} (p : A → Bool) (xs : List A) (i : ℕ) → Some i ≡ position p xs → CutsAt p xs i
-cut_at p xs i h1 = grind (arith, nat_tests, eqb-true, eqb-false, chosen_some, ltb, length, before_is, from_is)
+cut_at p xs i h1 = grind (arith, nat_tests, eqb-true, eqb-false, ltb, length, before_is, from_is)
 
 -- where there is none
 all_step : {A : Type 0} (b : Bool) (x : A) (xs front back : List A) (n : ℕ) → suc (length xs) ≤ cond (not b) (1 + n) 0 → (length xs ≤ n → (front ≡ xs) × (back ≡ []))

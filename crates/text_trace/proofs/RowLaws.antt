@@ -1,6 +1,6 @@
 -- Rows, one more at a time.
 use Rattle.text_trace.specs.Names.{take-map, bytes_eq}
-use Rattle.text_trace.proofs.Names.{◌≡◌, ℕ, zero, suc, ◌+◌, ◌-◌, ◌^◌, ◌<◌, ◌≤◌, min, Bool, true, false, refl, sym, ◌∙◌, ap, subst, List, [], ◌∷◌, ◌++◌, length, take, get_or, append_assoc, Option, Some, None, arith, take_more, map-append, append-nil, length-map}
+use Rattle.text_trace.proofs.Names.{nat_tests, eqb-true, eqb-false, ◌≡◌, ℕ, zero, suc, ◌+◌, ◌-◌, ◌^◌, ◌<◌, ◌≤◌, min, Bool, true, false, refl, sym, ◌∙◌, ap, subst, List, [], ◌∷◌, ◌++◌, length, take, get_or, append_assoc, Option, Some, None, arith, take_more, map-append, append-nil, length-map}
 use Rattle.std.proofs.lemmas.List.Concat.{flat_map-append}
 use Rattle.std.proofs.lemmas.Slice.Eq.{bytes_eq-Decides}
 use Rattle.text_trace.specs.declared.rows.Row.{Row}
@@ -72,10 +72,7 @@ module _ {T : Type 0} where
 
   pub added_first : (times : ℕ) (cells : Texts T) (old mid new : List (Row T)) (row : Row T) → 0 < times → times < 2 ^ 64 → old ≡ [] → mid ≡ [] → new ≡ mid ++ row ∷ [] → entry_of row ≡ record { first = 1; last = times; cells = cells } →
       entries new ≡ added_often times cells (entries old)
-  added_first zero cells old mid new row some small none empty is made = absurd (omega (arith, some))
-  added_first (suc n) cells old mid new row some small none empty is made =
-      entries_end new mid row is ∙ ap (λ (l : List (Row T)). entries l ++ entry_of row ∷ []) empty ∙ ap (λ (x : Entry T). x ∷ []) made
-      ∙ sym (ap (λ (l : List (Row T)). added_often (suc n) cells (entries l)) none ∙ often_alone n cells small)
+  added_first times cells old mid new row h1 h2 h3 h4 h5 h6 = grind (arith, nat_tests, eqb-true, eqb-false, entries_end, often_alone)
 
   pub added_to_last : (times : ℕ) (cells : Texts T) (old mid new : List (Row T)) (last row : Row T) → 0 < times → old ≡ mid ++ last ∷ [] → true ≡ read_same (texts_of last.cells) cells → new ≡ mid ++ row ∷ [] → entry_of row ≡ lengthened times (entry_of last) cells →
       entries new ≡ added_often times cells (entries old)
@@ -107,8 +104,7 @@ module _ {T : Type 0} where
   trimmed_end (suc n) (r ∷ rows) row fits = ap (λ (l : List (Entry T)). r ∷ l) (trimmed_end n rows row (omega (arith, fits)))
 
   joined_behind : (b : Bool) (cells : Texts T) (row last : Entry T) → trimmed 0 (row ∷ joined b last cells) ≡ trimmed 0 (joined b last cells)
-  joined_behind true cells row last = refl
-  joined_behind false cells row last = refl
+  joined_behind b cells row last = grind (arith, nat_tests, eqb-true, eqb-false)
 
   added_behind : (cells : Texts T) (row : Entry T) (rows : List (Entry T)) → trimmed 0 (row ∷ added cells rows) ≡ trimmed 0 (added cells rows)
   added_behind cells row [] = refl

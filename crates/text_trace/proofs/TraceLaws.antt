@@ -1,6 +1,6 @@
 -- The rows of a walk, one more step at a time.
 use Rattle.text_trace.specs.Names.{replicate, Event, Object, Arithmetic, after, Configuration, StandsAt, is_quiet, IsQuiet, Header, lines_of, FaultyLine, Step, events_in, Walk, steps_then, nothing, go_walk, lines_walk, opened, rest_walk, after_times, IsNextStride, Numerals}
-use Rattle.text_trace.proofs.Names.{◌≡◌, ℕ, zero, suc, ◌<◌, true, IfSome, arith, ◌++◌, refl, sym, ◌∙◌, ap, subst, List, [], ◌∷◌, Option, Some, None, Result, Ok, Err}
+use Rattle.text_trace.proofs.Names.{nat_tests, eqb-true, eqb-false, ◌≡◌, ℕ, zero, suc, ◌<◌, true, IfSome, arith, ◌++◌, refl, sym, ◌∙◌, ap, subst, List, [], ◌∷◌, Option, Some, None, Result, Ok, Err}
 use Rattle.sync_play.specs.declared.walk.Rest.{Rest}
 use Rattle.sync_play.specs.declared.walk.Stride.{Stride}
 use Rattle.sync_play.proofs.PlayLaws.{events_then, fault_then}
@@ -84,22 +84,11 @@ module _ {T : Type 0} (z : Arithmetic T) (numerals : Numerals T) where
 
   pub ends : (most : Option ℕ) (header : Header T) (past : List Ev) (first rest rest' : Rest T) (old rows : List (Row T)) (machine machine' : Configuration T) (told : Option (Stride T)) → told ≡ None → IsHalfway most header past first rest old rows machine →
       Strides rest rest' machine machine' (Ok told) → HasAdded z numerals most header past (rest_walk z numerals header.object header.parties past first) old rows None
-  ends most header past first rest rest' old rows machine machine' told none h strides =
-      let next = subst (λ (x : Option (Stride T)). IsNextStride z numerals header.object header.parties h.here rest rest' machine' (Ok x)) none (strides header.object header.parties h.here h.stands) in
-      (sym (h.rows ∙ ap (λ (w : Walk T). trimmed_to most (rows_with z numerals header h.here w.steps (entries rows))) next.0), sym (h.fault ∙ ap (λ (w : Walk T). w.fault) next.0))
-
-  pub ends_so : (most : Option ℕ) (header : Header T) (past : List Ev) (first rest rest' : Rest T) (old rows : List (Row T)) (machine machine' : Configuration T) (told : Option (Stride T)) → told ≡ None → IsHalfway most header past first rest old rows machine →
-      Strides rest rest' machine machine' (Ok told) → HasPlayed z header past (rest_walk z numerals header.object header.parties past first) machine' None
-  ends_so most header past first rest rest' old rows machine machine' told none h strides =
-      let next = subst (λ (x : Option (Stride T)). IsNextStride z numerals header.object header.parties h.here rest rest' machine' (Ok x)) none (strides header.object header.parties h.here h.stands) in
-      let here : after (events_in (rest_walk z numerals header.object header.parties past first).steps) past ≡ h.here = h.events ∙ ap (λ (w : Walk T). after (events_in w.steps) h.here) next.0 in
-      subst (λ (l : List Ev). StandsAt z header.object header.parties l machine') (sym here) next.1
+  ends most header past first rest rest' old rows machine machine' told h1 h2 h3 = grind (arith, nat_tests, eqb-true, eqb-false)
 
   pub fails : (most : Option ℕ) (header : Header T) (past : List Ev) (first rest rest' : Rest T) (old rows : List (Row T)) (machine machine' : Configuration T) (fault : FaultyLine) → IsHalfway most header past first rest old rows machine →
       Strides rest rest' machine machine' (Err fault) → HasAdded z numerals most header past (rest_walk z numerals header.object header.parties past first) old rows (Some fault)
-  fails most header past first rest rest' old rows machine machine' fault h strides =
-      let next = strides header.object header.parties h.here h.stands in
-      (sym (h.rows ∙ ap (λ (w : Walk T). trimmed_to most (rows_with z numerals header h.here w.steps (entries rows))) next), sym (h.fault ∙ ap (λ (w : Walk T). w.fault) next))
+  fails most header past first rest rest' old rows machine machine' fault h1 h2 = grind (arith, nat_tests, eqb-true, eqb-false)
 
   -- A text.
 

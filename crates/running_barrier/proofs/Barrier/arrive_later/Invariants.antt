@@ -1,7 +1,4 @@
-use Rattle.running_barrier.specs.Names.{sights_of, parties_of, count_of}
-use Rattle.running_barrier.proofs.Names.{◌≡◌, ◌<◌}
-use Rattle.running_barrier.specs.BarrierParties.{HasLooked, OnceLooked}
-use Rattle.running_barrier.specs.BarrierShown.{waiters_of, HasStayed}
+use Rattle.running_barrier.proofs.Names.{sights_of, parties_of, count_of, ◌≡◌, ◌<◌, HasLooked, OnceLooked, waiters_of, HasStayed}
 use Rattle.running_barrier.proofs.Barrier.arrive_later.Given as goal
 
 -- where one had room, so has each that is found later

@@ -1,7 +1,4 @@
-use Rattle.running_barrier.specs.Names.{parties_of}
-use Rattle.running_barrier.proofs.Names.{rules, sym, subst}
-use Rattle.running_barrier.specs.BarrierParties.{Looks}
-use Rattle.running_barrier.specs.BarrierShown.{waiters_of}
+use Rattle.running_barrier.proofs.Names.{parties_of, rules, sym, subst, Looks, waiters_of}
 use Rattle.running_barrier.proofs.BarrierPlays.{leaves, stands_to_wait, may_look_on, looks_on}
 use Rattle.running_barrier.proofs.Barrier.ask.Goals as goal
 

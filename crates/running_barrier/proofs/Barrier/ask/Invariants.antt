@@ -1,8 +1,4 @@
-use Rattle.running_barrier.specs.Names.{parties_of, counted, epoch_of}
-use Rattle.running_barrier.proofs.Names.{◌≡◌, ◌%◌, ◌^◌}
-use Rattle.running_barrier.specs.BarrierParties.{Looks, OnceLooking}
-use Rattle.running_barrier.specs.BarrierSteps.{HasAll}
-use Rattle.running_barrier.specs.BarrierShown.{waiters_of, reached_of, HasStayed}
+use Rattle.running_barrier.proofs.Names.{parties_of, counted, epoch_of, ◌≡◌, ◌%◌, ◌^◌, Looks, OnceLooking, HasAll, waiters_of, reached_of, HasStayed}
 use Rattle.running_barrier.proofs.Barrier.ask.Given as goal
 
 abbrev pub invariant-loop : goal.invariant-loop

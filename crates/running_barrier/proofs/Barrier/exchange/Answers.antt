@@ -1,4 +1,4 @@
-use Rattle.running_tallies.specs.BarrierTally.{waiters_fit}
+use Rattle.running_barrier.proofs.Names.{waiters_fit}
 use Rattle.running_barrier.proofs.BarrierKeeps.{exchanges}
 use Rattle.running_barrier.proofs.BarrierPlays.{may_arrive, has_joined, looked_again}
 use Rattle.running_barrier.proofs.Barrier.exchange.Goals as goal

@@ -1,4 +1,4 @@
-use Rattle.running_tallies.specs.BarrierTally.{waiters_fit}
+use Rattle.running_barrier.proofs.Names.{waiters_fit}
 use Rattle.running_barrier.proofs.BarrierKeeps.{loads}
 use Rattle.running_barrier.proofs.Barrier.look.Goals as goal
 

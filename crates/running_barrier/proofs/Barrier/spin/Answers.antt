@@ -1,7 +1,4 @@
-use Rattle.running_barrier.specs.Names.{parties_of}
-use Rattle.running_barrier.proofs.Names.{◌≡◌, ℕ, rules, subst}
-use Rattle.running_barrier.specs.BarrierParties.{Looks}
-use Rattle.running_barrier.specs.BarrierShown.{waiters_of}
+use Rattle.running_barrier.proofs.Names.{parties_of, ◌≡◌, ℕ, rules, subst, Looks, waiters_of}
 use Rattle.running_barrier.proofs.BarrierPlays.{may_stay, looks, looks_no_more, spins_on}
 use Rattle.running_barrier.proofs.Barrier.spin.Goals as goal
 

@@ -1,8 +1,4 @@
-use Rattle.running_barrier.specs.Names.{sights_of, parties_of, counted, epoch_of}
-use Rattle.running_barrier.proofs.Names.{◌≡◌, ◌+◌, ◌%◌, ◌^◌}
-use Rattle.running_barrier.specs.BarrierParties.{Looks, OnceToStay}
-use Rattle.running_barrier.specs.BarrierSteps.{HasAll}
-use Rattle.running_barrier.specs.BarrierShown.{waiters_of, reached_of, HasStayed}
+use Rattle.running_barrier.proofs.Names.{sights_of, parties_of, counted, epoch_of, ◌≡◌, ◌+◌, ◌%◌, ◌^◌, Looks, OnceToStay, HasAll, waiters_of, reached_of, HasStayed}
 use Rattle.running_barrier.proofs.Barrier.spin.Given as goal
 
 abbrev pub invariant-loop : goal.invariant-loop

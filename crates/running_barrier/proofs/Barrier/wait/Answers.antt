@@ -1,7 +1,4 @@
-use Rattle.running_barrier.specs.Names.{Call, Answer, all_of, parties_of, barrier_model}
-use Rattle.running_barrier.proofs.Names.{rules, sym, subst, ◌∙◌}
-use Rattle.running_model.proofs.Over.{is_over}
-use Rattle.running_barrier.specs.BarrierShown.{waiters_of, HasPlayed, HasFilled}
+use Rattle.running_barrier.proofs.Names.{Call, Answer, all_of, parties_of, barrier_model, rules, sym, subst, ◌∙◌, is_over, waiters_of, HasPlayed, HasFilled}
 use Rattle.running_barrier.proofs.BarrierPlays.{looked, refused, fills, stays, is_to_wake, is_over_woken}
 use Rattle.running_barrier.proofs.Barrier.wait.Goals as goal
 

@@ -1,5 +1,4 @@
-use Rattle.running_guarded.specs.Names.{mutex_model}
-use Rattle.running_guarded.proofs.Names.{grants_are_of_a_run}
+use Rattle.running_guarded.proofs.Names.{mutex_model, grants_are_of_a_run}
 use Rattle.running_guarded.proofs.guarded.grants_are_of_a_run.Goals as goal
 
 pub returns : goal.returns

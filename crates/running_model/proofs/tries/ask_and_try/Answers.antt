@@ -1,9 +1,4 @@
-use Rattle.running_model.specs.Names.{WaitAction, answered, part_of, sights_of}
-use Rattle.running_model.proofs.Names.{◌≡◌, ◌+◌, refl, ◌∙◌, sym, subst, arith, not_asked, goes_on, has_asked, told_of_its_kind}
-use Rattle.std.proofs.lemmas.Bool.{false≢true}
-use Rattle.running_model.specs.Tries.{spun, IsStanding}
-use Rattle.running_model.specs.Passes.{parties_of, counts_of}
-use Rattle.running_model.specs.Counts.{HasMoved, WasRefusedAt}
+use Rattle.running_model.proofs.Names.{WaitAction, answered, part_of, sights_of, ◌≡◌, ◌+◌, refl, ◌∙◌, sym, subst, arith, not_asked, goes_on, has_asked, told_of_its_kind, false≢true, spun, IsStanding, parties_of, counts_of, HasMoved, WasRefusedAt}
 use Rattle.running_model.proofs.Attempts.{seen_none, seen_twice, still_so, moved_later, refused_by, refused_later}
 use Rattle.running_model.proofs.Patience.{tries_on}
 use Rattle.running_model.proofs.tries.ask_and_try.Goals as goal

@@ -1,8 +1,4 @@
-use Rattle.running_model.specs.Names.{object_of, part_of}
-use Rattle.running_model.proofs.Names.{◌≡◌, HasGoneOn}
-use Rattle.running_model.specs.Passes.{parties_of, counts_of}
-use Rattle.running_model.specs.Counts.{HasOnlySeen}
-use Rattle.running_model.specs.Tries.{IsStanding, OnceStanding}
+use Rattle.running_model.proofs.Names.{object_of, part_of, ◌≡◌, HasGoneOn, parties_of, counts_of, HasOnlySeen, IsStanding, OnceStanding}
 use Rattle.running_model.proofs.tries.ask_and_try.Given as goal
 
 abbrev pub invariant-loop : goal.invariant-loop

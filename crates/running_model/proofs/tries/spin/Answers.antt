@@ -1,5 +1,4 @@
-use Rattle.running_model.proofs.Names.{◌+◌, ◌∙◌, arith}
-use Rattle.running_model.specs.Tries.{spun}
+use Rattle.running_model.proofs.Names.{◌+◌, ◌∙◌, arith, spun}
 use Rattle.running_model.proofs.Attempts.{seen_twice, still_so, moved_later}
 use Rattle.running_model.proofs.Patience.{spins_on}
 use Rattle.running_model.proofs.tries.spin.Goals as goal

@@ -1,8 +1,4 @@
-use Rattle.running_model.specs.Names.{object_of, part_of, sights_of}
-use Rattle.running_model.proofs.Names.{◌≡◌, ◌+◌, ◌≤◌}
-use Rattle.running_model.specs.Passes.{parties_of, counts_of}
-use Rattle.running_model.specs.Counts.{HasOnlySeen}
-use Rattle.running_model.specs.Tries.{spun, IsRefused, OnceRefused}
+use Rattle.running_model.proofs.Names.{object_of, part_of, sights_of, ◌≡◌, ◌+◌, ◌≤◌, parties_of, counts_of, HasOnlySeen, spun, IsRefused, OnceRefused}
 use Rattle.running_model.proofs.tries.spin.Given as goal
 
 abbrev pub invariant-loop : goal.invariant-loop

@@ -1,8 +1,4 @@
-use Rattle.running_model.proofs.Steps.{zero_or_not}
-use Rattle.running_tallies.specs.MutexTally.{mutex_is_for_one}
-use Rattle.running_tallies.proofs.OneHold.{tried_alone}
-use Rattle.running_passes.specs.Passes.{view}
-use Rattle.running_mutex.specs.Names.{mutex_model}
+use Rattle.running_mutex.proofs.Names.{zero_or_not, mutex_is_for_one, tried_alone, view, mutex_model}
 use Rattle.running_mutex.proofs.MutexKeeps.{exchanges, tries}
 use Rattle.running_mutex.proofs.Mutex.exchange.Goals as goal
 

@@ -1,6 +1,4 @@
-use Rattle.running_mutex.specs.Names.{Word, Intent, mutex_model, Beginning, MayStep, parties_of}
-use Rattle.running_mutex.proofs.Names.{◌≡◌, ℕ, true, MatchBool, [], ◌∷◌, sym, subst}
-use Rattle.running_mutex.specs.MutexShown.{HasLocked, HasSeenLocked, HasTried, IsAlone}
+use Rattle.running_mutex.proofs.Names.{Word, Intent, mutex_model, Beginning, MayStep, parties_of, ◌≡◌, ℕ, true, MatchBool, [], ◌∷◌, sym, subst, HasLocked, HasSeenLocked, HasTried, IsAlone}
 use Rattle.running_mutex.proofs.Mutex.first.Goals as goal
 
 pub exchange-requires-clause-may : goal.exchange-requires-clause-may

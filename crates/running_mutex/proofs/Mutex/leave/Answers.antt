@@ -1,7 +1,4 @@
-use Rattle.running_mutex.specs.Names.{parties_of}
-use Rattle.running_mutex.proofs.Names.{sym, subst}
-use Rattle.running_mutex.specs.MutexParties.{HasMutex}
-use Rattle.running_mutex.specs.MutexShown.{HasPlayedUnlock}
+use Rattle.running_mutex.proofs.Names.{parties_of, sym, subst, HasMutex, HasPlayedUnlock}
 use Rattle.running_mutex.proofs.MutexPlays.{is_to_wake, unlock_is_over}
 use Rattle.running_mutex.proofs.Mutex.leave.Goals as goal
 

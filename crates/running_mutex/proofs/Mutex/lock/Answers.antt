@@ -1,7 +1,4 @@
-use Rattle.running_mutex.specs.Names.{Answer, HoldKind, HasGivenUp, Call, all_of, Beginning, spun, parties_of, mutex_model}
-use Rattle.running_mutex.proofs.Names.{◌≡◌, Some, None, refl, sym, ap, subst, ◌∙◌, MatchBool-at_true, MatchBool-at_false, true≢false, is_over, either_is_over}
-use Rattle.running_mutex.specs.MutexShown.{HasPlayed, HasEntered, IsLocked, holds_of}
-use Rattle.running_mutex.specs.MutexParties.{HasMutex}
+use Rattle.running_mutex.proofs.Names.{Answer, HoldKind, HasGivenUp, Call, all_of, Beginning, spun, parties_of, mutex_model, ◌≡◌, Some, None, refl, sym, ap, subst, ◌∙◌, MatchBool-at_true, MatchBool-at_false, true≢false, is_over, either_is_over, HasPlayed, HasEntered, IsLocked, holds_of, HasMutex}
 use Rattle.running_mutex.proofs.MutexPlays.{lock_begins, may_lock, lock_first, granted_has}
 use Rattle.running_mutex.proofs.MutexTries.{locks_once, ends, state_named}
 use Rattle.running_mutex.proofs.Mutex.lock.Goals as goal

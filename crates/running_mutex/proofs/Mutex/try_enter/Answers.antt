@@ -1,7 +1,4 @@
-use Rattle.running_mutex.specs.Names.{Answer, HoldKind, Call, parties_of, mutex_model}
-use Rattle.running_mutex.proofs.Names.{MatchBool, Some, None, sym, subst, ◌∙◌, MatchBool-at_true, either_is_over}
-use Rattle.running_mutex.specs.MutexShown.{HasPlayed}
-use Rattle.running_mutex.specs.MutexParties.{HasMutex}
+use Rattle.running_mutex.proofs.Names.{Answer, HoldKind, Call, parties_of, mutex_model, MatchBool, Some, None, sym, subst, ◌∙◌, MatchBool-at_true, either_is_over, HasPlayed, HasMutex}
 use Rattle.running_mutex.proofs.MutexPlays.{may_try_lock, try_ends, granted_has}
 use Rattle.running_mutex.proofs.Mutex.try_enter.Goals as goal
 

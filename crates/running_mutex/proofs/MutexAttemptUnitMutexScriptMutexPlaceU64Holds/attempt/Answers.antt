@@ -1,5 +1,4 @@
-use Rattle.running_mutex.specs.Names.{Call, MutexPlace, mutex_model, parties_of, IsRefused}
-use Rattle.running_mutex.proofs.Names.{sym, subst, MatchBool-at_true, MatchBool-at_false}
+use Rattle.running_mutex.proofs.Names.{Call, MutexPlace, mutex_model, parties_of, IsRefused, sym, subst, MatchBool-at_true, MatchBool-at_false}
 use Rattle.running_mutex.proofs.MutexPlays.{may_lock, lock_goes}
 use Rattle.running_mutex.proofs.MutexTries.{locks_once, sees_once, refused_at}
 use Rattle.running_mutex.proofs.MutexAttemptUnitMutexScriptMutexPlaceU64Holds.attempt.Goals as goal

@@ -5,9 +5,6 @@ use Rattle.running_once.proofs.Once.end.Goals as goal
 pub store-requires-clause-may : goal.store-requires-clause-may
 store-requires-clause-may g c = may_complete c.requires.runs.0 _ c.requires.runs.1
 
-pub store-requires-clause-needs : goal.store-requires-clause-needs
-store-requires-clause-needs g c = λ name found named. c.requires.on
-
 pub returns-clause-ended : goal.returns-clause-ended
 returns-clause-ended g c = ends _ c.args.turn.pass.now c.store.result.pass.now (may_complete c.requires.runs.0 _ c.requires.runs.1) c.store.ensures.same c.store.ensures.acted.told
 

@@ -1,5 +1,5 @@
 use Rattle.running_once.proofs.Names.{rules}
-use Rattle.running_once.proofs.OncePlays.{may_stay, leaves_at_last, stays_on}
+use Rattle.running_once.proofs.OncePlays.{may_stay, leaves_at_last}
 use Rattle.running_once.proofs.Once.stay.Goals as goal
 
 pub look-seen-requires-clause-may : goal.look-seen-requires-clause-may
@@ -7,10 +7,3 @@ look-seen-requires-clause-may g c = let comes = c.requires.comes in may_stay com
 
 pub returns-then-seen-eq-COMPLETE-clause-left : goal.returns-then-seen-eq-COMPLETE-clause-left
 returns-then-seen-eq-COMPLETE-clause-left g c = λ done at. leaves_at_last _ done _ _ (search rules) (c.loop.invariant.stays done at) c.look-seen.ensures.went
-
-pub loop-preserved : goal.loop-preserved
-loop-preserved g c = record {
-  same_borrow = search rules;
-  waited = search rules;
-  stays = λ done at. stays_on _ done _ _ (search rules) (c.loop.invariant.stays done at) c.look-seen.ensures.went;
-}

@@ -1,7 +1,4 @@
-use Rattle.running_once.specs.Names.{parties_of}
-use Rattle.running_once.proofs.Names.{◌≡◌}
-use Rattle.running_once.specs.OnceParties.{ComesToStay, WhereStays}
-use Rattle.running_once.specs.OnceShown.{HasOnlyWaited}
+use Rattle.running_once.proofs.Names.{parties_of, ◌≡◌, ComesToStay, WhereStays, HasOnlyWaited}
 use Rattle.running_once.proofs.Once.stay.Given as goal
 
 abbrev pub invariant-loop : goal.invariant-loop

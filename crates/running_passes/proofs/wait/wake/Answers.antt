@@ -1,4 +1,4 @@
-use Rattle.std.proofs.Common.{refl}
+use Rattle.running_passes.proofs.Names.{refl}
 use Rattle.running_passes.proofs.wait.wake.Goals as goal
 
 pub returns : goal.returns

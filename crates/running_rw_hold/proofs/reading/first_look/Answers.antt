@@ -1,6 +1,4 @@
-use Rattle.std.proofs.Common.{subst}
-use Rattle.running_model.specs.Plays.{Beginning}
-use Rattle.running_rw_hold.specs.RwReading.{HasLookedAt}
+use Rattle.running_rw_hold.proofs.Names.{subst, Beginning, HasLookedAt}
 use Rattle.running_rw_hold.proofs.reading.first_look.Goals as goal
 
 pub returns-clause-looked : goal.returns-clause-looked

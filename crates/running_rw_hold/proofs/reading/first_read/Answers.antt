@@ -1,9 +1,4 @@
-use Rattle.std.proofs.Common.{inr, arith}
-use Rattle.std.proofs.lemmas.Bool.{MatchBool-at_true}
-use Rattle.running_model.specs.Passes.{parties_of}
-use Rattle.running_model.specs.Slots.{all_of}
-use Rattle.running_model.specs.Tries.{spun}
-use Rattle.running_model.proofs.Attempts.{seen_once, seen_twice, missed_once}
+use Rattle.running_rw_hold.proofs.Names.{inr, arith, MatchBool-at_true, parties_of, all_of, spun, seen_once, seen_twice, missed_once}
 use Rattle.running_rw_hold.proofs.RwTries.{begins_so, one_more, last_seen, last_missed, entered, found_again, surely}
 use Rattle.running_rw_hold.proofs.reading.first_read.Goals as goal
 

@@ -1,6 +1,4 @@
-use Rattle.std.proofs.Common.{◌∙◌, refl}
-use Rattle.std.proofs.lemmas.Bool.{MatchBool-at_false, ne_eqb}
-use Rattle.running_model.proofs.Attempts.{seen_none, seen_twice, missed_once}
+use Rattle.running_rw_hold.proofs.Names.{◌∙◌, refl, MatchBool-at_false, ne_eqb, seen_none, seen_twice, missed_once}
 use Rattle.running_rw_hold.proofs.RwTries.{last_missed, found_again}
 use Rattle.running_rw_hold.proofs.reading.read_from.Goals as goal
 

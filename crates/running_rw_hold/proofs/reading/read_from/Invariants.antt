@@ -1,10 +1,5 @@
-use Rattle.std.proofs.Common.{◌≡◌, ℕ, List}
+use Rattle.running_rw_hold.proofs.Names.{◌≡◌, ℕ, List, part_of, sights_of, HasOnlySeen, parties_of, counts_of, Slot, HasLooked}
 use Rattle.model_events.specs.declared.patience.Patience.{Patience}
-use Rattle.running_passes.specs.Passes.{part_of, sights_of}
-use Rattle.running_model.specs.Counts.{HasOnlySeen}
-use Rattle.running_model.specs.Passes.{parties_of, counts_of}
-use Rattle.running_model.specs.Slots.{Slot}
-use Rattle.running_rw_hold.specs.RwReading.{HasLooked}
 use Rattle.running_rw_hold.proofs.reading.read_from.Given as goal
 
 -- where nobody else changes the word, no exchange has failed

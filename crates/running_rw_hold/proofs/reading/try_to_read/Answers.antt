@@ -1,18 +1,6 @@
-use Rattle.std.proofs.Common.{◌≡◌, ◌==◌, true, Some, None, MatchBool, inl, ◌∙◌, sym, subst}
-use Rattle.std.proofs.lemmas.Bool.{MatchBool-at_true, eqb-true}
-use Rattle.model_events.specs.declared.event.Call.{Call}
+use Rattle.running_rw_hold.proofs.Names.{◌≡◌, ◌==◌, true, Some, None, MatchBool, inl, ◌∙◌, sym, subst, MatchBool-at_true, eqb-true, Call, HoldKind, HasOnlySeen, HasMoved, is_holding, parties_of, counted, HasCalled, all_of, spun, holding_is, TurnsAway, HasReadFrom}
 use Rattle.model_events.specs.declared.event.Answer.{Answer}
-use Rattle.model_events.specs.declared.hold.HoldKind.{HoldKind}
-use Rattle.running_model.specs.Counts.{HasOnlySeen, HasMoved}
-use Rattle.running_model.specs.Holding.{is_holding}
-use Rattle.running_model.specs.Passes.{parties_of, counted}
-use Rattle.running_model.specs.Plays.{HasCalled}
-use Rattle.running_model.specs.Slots.{all_of}
-use Rattle.running_model.specs.Tries.{spun}
-use Rattle.running_model.proofs.Holding.{holding_is}
 use Rattle.running_model.proofs.Over.{is_over, either_is_over}
-use Rattle.running_rw_hold.specs.RwShown.{TurnsAway}
-use Rattle.running_rw_hold.specs.RwReading.{HasReadFrom}
 use Rattle.running_rw_hold.proofs.RwTries.{begins_so, found_shut, tried_once, entered_at_once}
 use Rattle.running_rw_hold.proofs.reading.try_to_read.Goals as goal
 

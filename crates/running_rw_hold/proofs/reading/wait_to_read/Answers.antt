@@ -1,13 +1,5 @@
-use Rattle.std.proofs.Common.{◌≡◌, true, MatchBool, ◌∙◌, sym, ap, subst, arith}
-use Rattle.std.proofs.lemmas.Bool.{MatchBool-at_true}
-use Rattle.model_events.specs.declared.hold.HoldKind.{HoldKind}
+use Rattle.running_rw_hold.proofs.Names.{◌≡◌, true, MatchBool, ◌∙◌, sym, ap, subst, arith, MatchBool-at_true, HoldKind, HasMoved, WasRefused, is_holding, parties_of, all_of, still_so, asked_after, holding_is}
 use Rattle.running_passes.specs.Answers.{HasAsked}
-use Rattle.running_model.specs.Counts.{HasMoved, WasRefused}
-use Rattle.running_model.specs.Holding.{is_holding}
-use Rattle.running_model.specs.Passes.{parties_of}
-use Rattle.running_model.specs.Slots.{all_of}
-use Rattle.running_model.proofs.Attempts.{still_so, asked_after}
-use Rattle.running_model.proofs.Holding.{holding_is}
 use Rattle.running_rw_hold.proofs.RwTries.{told_on}
 use Rattle.running_rw_hold.proofs.reading.wait_to_read.Goals as goal
 

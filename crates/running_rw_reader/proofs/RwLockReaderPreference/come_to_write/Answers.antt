@@ -1,5 +1,4 @@
-use Rattle.running_rw_reader.specs.Names.{read_holds, write_holds, View, Holds}
-use Rattle.running_rw_reader.proofs.Names.{ap}
+use Rattle.running_rw_reader.proofs.Names.{read_holds, write_holds, View, Holds, ap}
 use Rattle.running_rw_reader.proofs.RwReaderKeeps.{misses, exchanges_alone, writes_on, was_free}
 use Rattle.running_rw_reader.proofs.RwLockReaderPreference.come_to_write.Goals as goal
 

@@ -1,5 +1,4 @@
-use Rattle.running_rw_reader.specs.Names.{IfOk, IfErr, Beginning, Went, parties_of, rw_reader_model}
-use Rattle.running_rw_reader.proofs.Names.{◌≢◌, subst}
+use Rattle.running_rw_reader.proofs.Names.{IfOk, IfErr, Beginning, Went, parties_of, rw_reader_model, ◌≢◌, subst}
 use Rattle.running_rw_reader.proofs.RwLockReaderPreference.first_write.Goals as goal
 
 pub returns-clause-went : goal.returns-clause-went

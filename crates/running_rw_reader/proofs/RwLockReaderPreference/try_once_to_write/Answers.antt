@@ -1,7 +1,4 @@
-use Rattle.running_rw_reader.specs.Names.{Call, Answer, HoldKind, parties_of, rw_reader_model}
-use Rattle.running_rw_reader.proofs.Names.{◌≡◌, true, Some, None, ◌∙◌, sym, subst, is_over}
-use Rattle.running_rw_reader.specs.RwReaderParties.{has_hold}
-use Rattle.running_rw_reader.specs.RwReaderShown.{HasPlayed}
+use Rattle.running_rw_reader.proofs.Names.{Call, Answer, HoldKind, parties_of, rw_reader_model, ◌≡◌, true, Some, None, ◌∙◌, sym, subst, is_over, has_hold, HasPlayed}
 use Rattle.running_rw_reader.proofs.RwReaderPlays.{may_write_once, wrote_once, missed_once, granted_has}
 use Rattle.running_rw_reader.proofs.RwLockReaderPreference.try_once_to_write.Goals as goal
 

@@ -1,6 +1,4 @@
-use Rattle.running_rw_reader.specs.Names.{HoldKind, parties_of}
-use Rattle.running_rw_reader.proofs.Names.{◌≡◌, true, sym, subst}
-use Rattle.running_rw_reader.specs.RwReaderParties.{has_hold, Unlocks}
+use Rattle.running_rw_reader.proofs.Names.{HoldKind, parties_of, ◌≡◌, true, sym, subst, has_hold, Unlocks}
 use Rattle.running_rw_reader.proofs.RwReaderPlays.{is_to_wake, unlock_is_over}
 use Rattle.running_rw_reader.proofs.RwLockReaderPreference.unlock_write.Goals as goal
 

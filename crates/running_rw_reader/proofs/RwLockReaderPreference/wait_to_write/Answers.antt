@@ -1,7 +1,4 @@
-use Rattle.running_rw_reader.specs.Names.{Call, Answer, HoldKind, all_of, spun, parties_of, rw_reader_model, Beginning}
-use Rattle.running_rw_reader.proofs.Names.{MatchBool-at_true, is_over, either_is_over, ◌≡◌, true, Some, None, MatchBool, ◌∙◌, sym, subst}
-use Rattle.running_rw_reader.specs.RwReaderParties.{has_hold}
-use Rattle.running_rw_reader.specs.RwReaderShown.{HasPlayed}
+use Rattle.running_rw_reader.proofs.Names.{Call, Answer, HoldKind, all_of, spun, parties_of, rw_reader_model, Beginning, MatchBool-at_true, is_over, either_is_over, ◌≡◌, true, Some, None, MatchBool, ◌∙◌, sym, subst, has_hold, HasPlayed}
 use Rattle.running_rw_reader.proofs.RwReaderPlays.{may_write, first_write, write_begins, has_written, found_taken, granted_has}
 use Rattle.running_rw_reader.proofs.RwLockReaderPreference.wait_to_write.Goals as goal
 

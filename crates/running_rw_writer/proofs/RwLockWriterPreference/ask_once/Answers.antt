@@ -1,11 +1,5 @@
-use Rattle.running_rw_writer.specs.RwWriterShown.{HasEnteredSeenFree, HasTried}
-use Rattle.running_rw_writer.proofs.RwWriterTries.{unchanged, fewest, tried_again, tries_after}
-use Rattle.running_rw_writer.specs.Names.{WaitAction, Pass, Answered, parties_of, spun}
-use Rattle.running_rw_writer.proofs.Names.{◌<◌, ◌^◌, ◌∙◌, sym, subst, arith, MatchBool}
+use Rattle.running_rw_writer.proofs.AnswerNames.{HasEnteredSeenFree, HasTried, WaitAction, Pass, Answered, parties_of, spun, ◌<◌, ◌^◌, ◌∙◌, sym, subst, arith, MatchBool, PlayedRwWriter, ComesToWrite, ComesToGiveUp, unchanged, fewest, tried_again, tries_after, stands, goes_on, stands_to_wait, continued, aborted}
 use Rattle.running_passes.proofs.Attempts.{told_of_its_kind}
-use Rattle.running_rw_writer.specs.RwWriterSteps.{PlayedRwWriter}
-use Rattle.running_rw_writer.specs.RwWriterParties.{ComesToWrite, ComesToGiveUp}
-use Rattle.running_rw_writer.proofs.RwWriterPlays.{stands, goes_on, stands_to_wait, continued, aborted}
 use Rattle.running_rw_writer.proofs.RwLockWriterPreference.ask_once.Goals as goal
 
 pub look_last-seen-requires-clause-at : goal.look_last-seen-requires-clause-at

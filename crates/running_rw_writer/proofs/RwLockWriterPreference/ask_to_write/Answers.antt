@@ -1,9 +1,4 @@
-use Rattle.running_rw_writer.specs.Names.{Call, Answer, HoldKind, Pass, parties_of, rw_writer_model}
-use Rattle.running_rw_writer.proofs.Names.{Some, ◌∙◌, sym, subst, MatchBool-at_true, MatchBool-at_false, is_over}
-use Rattle.running_rw_writer.specs.RwWriterSteps.{PlayedRwWriter}
-use Rattle.running_rw_writer.specs.RwWriterParties.{WriteIsGranted}
-use Rattle.running_rw_writer.specs.RwWriterShown.{HasEnteredSeenFree}
-use Rattle.running_rw_writer.proofs.RwWriterTries.{fewest, tried_again, entered_after, ends_after}
+use Rattle.running_rw_writer.proofs.AnswerNames.{Call, Answer, HoldKind, Pass, parties_of, rw_writer_model, Some, ◌∙◌, sym, subst, MatchBool-at_true, MatchBool-at_false, is_over, PlayedRwWriter, WriteIsGranted, HasEnteredSeenFree, fewest, tried_again, entered_after, ends_after}
 use Rattle.running_rw_writer.proofs.RwLockWriterPreference.ask_to_write.Goals as goal
 
 pub end-requires-clause-over : goal.end-requires-clause-over

@@ -1,5 +1,4 @@
-use Rattle.running_rw_writer.proofs.Names.{arith}
-use Rattle.running_rw_writer.proofs.RwWriterKeeps.{closes}
+use Rattle.running_rw_writer.proofs.AnswerNames.{arith, closes}
 use Rattle.running_rw_writer.proofs.RwLockWriterPreference.close.Goals as goal
 
 pub returns-clause-exact : goal.returns-clause-exact

@@ -1,4 +1,4 @@
-use Rattle.running_rw_writer.proofs.RwWriterKeeps.{writers_in}
+use Rattle.running_rw_writer.proofs.AnswerNames.{writers_in}
 use Rattle.running_rw_writer.proofs.RwLockWriterPreference.come_to_write.Goals as goal
 
 pub exchange-requires-clause-may : goal.exchange-requires-clause-may

@@ -1,6 +1,4 @@
-use Rattle.running_rw_writer.specs.Names.{None, Word, Intent, RwWriterPlace, counts_of, marked_needed}
-use Rattle.running_rw_writer.proofs.Names.{subst}
-use Rattle.model_events.specs.Rows.{carried_out}
+use Rattle.running_rw_writer.proofs.AnswerNames.{None, Word, Intent, RwWriterPlace, counts_of, marked_needed, subst, carried_out}
 use Rattle.running_rw_writer.proofs.RwLockWriterPreference.count_up.Goals as goal
 
 pub add-next-requires-clause-needs : goal.add-next-requires-clause-needs

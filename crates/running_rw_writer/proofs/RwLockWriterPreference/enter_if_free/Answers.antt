@@ -1,6 +1,4 @@
-use Rattle.running_rw_writer.proofs.Names.{inl, inr, refl, arith, rules}
-use Rattle.running_rw_writer.proofs.RwWriterPlays.{comes_to_enter, may_enter, entered, enter_missed, enter_refused}
-use Rattle.running_rw_writer.proofs.RwWriterTries.{not_free, unchanged, missed_it, fewest, entered_now}
+use Rattle.running_rw_writer.proofs.AnswerNames.{inl, inr, refl, arith, rules, comes_to_enter, may_enter, entered, enter_missed, enter_refused, not_free, unchanged, missed_it, fewest, entered_now}
 use Rattle.running_rw_writer.proofs.RwLockWriterPreference.enter_if_free.Goals as goal
 
 pub come_to_write-found-requires-clause-may : goal.come_to_write-found-requires-clause-may

@@ -1,9 +1,4 @@
-use Rattle.running_rw_writer.specs.RwWriterShown.{HasEnteredSeenFree}
-use Rattle.running_rw_writer.proofs.RwWriterTries.{entered_after, tried_again, gave_up_after}
-use Rattle.running_rw_writer.specs.Names.{Call, Answer, HoldKind, Pass, parties_of, rw_writer_model}
-use Rattle.running_rw_writer.proofs.Names.{Some, sym, subst, is_over}
-use Rattle.running_rw_writer.specs.RwWriterSteps.{PlayedRwWriter}
-use Rattle.running_rw_writer.specs.RwWriterParties.{given_up, WriteIsGranted}
+use Rattle.running_rw_writer.proofs.AnswerNames.{HasEnteredSeenFree, Call, Answer, HoldKind, Pass, parties_of, rw_writer_model, Some, sym, subst, is_over, PlayedRwWriter, given_up, WriteIsGranted, entered_after, tried_again, gave_up_after}
 use Rattle.running_rw_writer.proofs.RwLockWriterPreference.enter_or_give_up.Goals as goal
 
 pub enter_if_free-requires-clause-at : goal.enter_if_free-requires-clause-at

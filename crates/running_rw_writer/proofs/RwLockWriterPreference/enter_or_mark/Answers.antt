@@ -1,5 +1,4 @@
-use Rattle.running_rw_writer.proofs.Names.{◌≡◌, arith}
-use Rattle.running_rw_writer.proofs.RwWriterTries.{tries_after, alone_still}
+use Rattle.running_rw_writer.proofs.AnswerNames.{◌≡◌, arith, tries_after, alone_still}
 use Rattle.running_rw_writer.proofs.RwLockWriterPreference.enter_or_mark.Goals as goal
 
 pub returns-clause-entered : goal.returns-clause-entered

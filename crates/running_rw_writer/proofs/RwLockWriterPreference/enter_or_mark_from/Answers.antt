@@ -1,7 +1,4 @@
-use Rattle.running_rw_writer.specs.Names.{spun}
-use Rattle.running_rw_writer.proofs.Names.{◌∙◌, rules}
-use Rattle.running_rw_writer.proofs.RwWriterPlays.{marks_none}
-use Rattle.running_rw_writer.proofs.RwWriterTries.{marks_some, fewest, tried_again, entered_after}
+use Rattle.running_rw_writer.proofs.AnswerNames.{spun, ◌∙◌, rules, marks_none, marks_some, fewest, tried_again, entered_after}
 use Rattle.running_rw_writer.proofs.RwLockWriterPreference.enter_or_mark_from.Goals as goal
 
 pub enter_if_free-requires-clause-at : goal.enter_if_free-requires-clause-at

@@ -1,7 +1,4 @@
-use Rattle.running_rw_writer.specs.Names.{write_look, parties_of, spun}
-use Rattle.running_rw_writer.proofs.Names.{◌≡◌, ℕ}
-use Rattle.running_rw_writer.specs.RwWriterParties.{OnceWriting, WriteGoes}
-use Rattle.running_rw_writer.specs.RwWriterShown.{IsAloneWithin, HasTried, HasJustSeen}
+use Rattle.running_rw_writer.proofs.AnswerNames.{write_look, parties_of, spun, ◌≡◌, ℕ, OnceWriting, WriteGoes, IsAloneWithin, HasTried, HasJustSeen}
 use Rattle.running_rw_writer.proofs.RwLockWriterPreference.enter_or_mark_from.Given as goal
 
 abbrev pub invariant-loop : goal.invariant-loop

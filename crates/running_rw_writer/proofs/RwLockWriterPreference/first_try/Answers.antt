@@ -1,8 +1,4 @@
-use Rattle.running_rw_writer.specs.Names.{spins, Pass, all_of, spun, parties_of}
-use Rattle.running_rw_writer.proofs.Names.{MatchBool, subst}
-use Rattle.running_rw_writer.specs.RwWriterSteps.{PlayedRwWriter}
-use Rattle.running_rw_writer.specs.RwWriterParties.{WriteGoes, WriteIsGranted}
-use Rattle.running_rw_writer.proofs.RwWriterPlays.{write_begins}
+use Rattle.running_rw_writer.proofs.AnswerNames.{spins, Pass, all_of, spun, parties_of, MatchBool, subst, PlayedRwWriter, WriteGoes, WriteIsGranted, write_begins}
 use Rattle.running_rw_writer.proofs.RwLockWriterPreference.first_try.Goals as goal
 
 pub returns-clause-played : goal.returns-clause-played

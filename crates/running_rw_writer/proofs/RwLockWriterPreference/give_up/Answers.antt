@@ -1,9 +1,4 @@
-use Rattle.running_rw_writer.specs.Names.{Call, Answer, After, Leaver, RwWriterPlace, Pass, parties_of, rw_writer_model}
-use Rattle.running_rw_writer.proofs.Names.{None, refl, sym, subst, inl, inr, MatchBool-at_true, MatchBool-at_false, is_over}
-use Rattle.running_rw_writer.specs.RwWriterSteps.{PlayedRwWriter}
-use Rattle.running_rw_writer.specs.RwWriterParties.{WriteGoes}
-use Rattle.running_rw_writer.specs.RwWriterShown.{HasGivenUpWriting}
-use Rattle.running_rw_writer.proofs.RwWriterTries.{gave_up_still}
+use Rattle.running_rw_writer.proofs.AnswerNames.{Call, Answer, After, Leaver, RwWriterPlace, Pass, parties_of, rw_writer_model, None, refl, sym, subst, inl, inr, MatchBool-at_true, MatchBool-at_false, is_over, PlayedRwWriter, WriteGoes, HasGivenUpWriting, gave_up_still}
 use Rattle.running_rw_writer.proofs.RwLockWriterPreference.give_up.Goals as goal
 
 pub count_up-counted-requires-clause-at : goal.count_up-counted-requires-clause-at

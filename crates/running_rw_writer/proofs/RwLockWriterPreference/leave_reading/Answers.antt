@@ -1,8 +1,4 @@
-use Rattle.running_rw_writer.specs.Names.{Word, Intent, counts_of, marked_needed}
-use Rattle.running_rw_writer.proofs.Names.{subst}
-use Rattle.model_events.specs.Rows.{carried_out}
-use Rattle.running_rw_writer.proofs.RwWriterKeeps.{readers_out}
-use Rattle.running_rw_writer.proofs.RwWriterPlays.{may_leave_reading, leaves_reading}
+use Rattle.running_rw_writer.proofs.AnswerNames.{Word, Intent, counts_of, marked_needed, subst, carried_out, readers_out, may_leave_reading, leaves_reading}
 use Rattle.running_rw_writer.proofs.RwLockWriterPreference.leave_reading.Goals as goal
 
 pub subtract-requires-clause-may : goal.subtract-requires-clause-may

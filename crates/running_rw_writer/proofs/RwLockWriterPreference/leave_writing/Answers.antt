@@ -1,8 +1,4 @@
-use Rattle.running_rw_writer.specs.Names.{Word, Intent, counts_of, marked_needed}
-use Rattle.running_rw_writer.proofs.Names.{subst}
-use Rattle.model_events.specs.Rows.{carried_out}
-use Rattle.running_rw_writer.proofs.RwWriterKeeps.{writers_out}
-use Rattle.running_rw_writer.proofs.RwWriterPlays.{may_leave_writing, leaves_writing}
+use Rattle.running_rw_writer.proofs.AnswerNames.{Word, Intent, counts_of, marked_needed, subst, carried_out, writers_out, may_leave_writing, leaves_writing}
 use Rattle.running_rw_writer.proofs.RwLockWriterPreference.leave_writing.Goals as goal
 
 pub store-requires-clause-may : goal.store-requires-clause-may

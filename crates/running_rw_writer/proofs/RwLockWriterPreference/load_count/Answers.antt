@@ -1,4 +1,4 @@
-use Rattle.running_rw_writer.specs.Names.{None, Call, RwWriterPlace}
+use Rattle.running_rw_writer.proofs.AnswerNames.{None, Call, RwWriterPlace}
 use Rattle.running_rw_writer.proofs.RwLockWriterPreference.load_count.Goals as goal
 
 pub returns-clause-unchanged : goal.returns-clause-unchanged

@@ -1,8 +1,4 @@
-use Rattle.running_rw_writer.specs.Names.{None, Going, Call, RwWriterPlace, sights_of, seen}
-use Rattle.running_rw_writer.proofs.Names.{refl}
-use Rattle.running_rw_writer.proofs.RwWriterKeeps.{looks_alone}
-use Rattle.running_rw_writer.proofs.RwWriterPlays.{may_look, looked_last}
-use Rattle.running_rw_writer.proofs.RwWriterTries.{sees_it}
+use Rattle.running_rw_writer.proofs.AnswerNames.{None, Going, Call, RwWriterPlace, sights_of, seen, refl, looks_alone, may_look, looked_last, sees_it}
 use Rattle.running_rw_writer.proofs.RwLockWriterPreference.look_last.Goals as goal
 
 pub load-requires-clause-may : goal.load-requires-clause-may

@@ -1,8 +1,4 @@
-use Rattle.running_rw_writer.specs.Names.{None, Call, RwWriterPlace, sights_of, seen}
-use Rattle.running_rw_writer.proofs.Names.{refl}
-use Rattle.running_rw_writer.proofs.RwWriterKeeps.{looks_alone}
-use Rattle.running_rw_writer.proofs.RwWriterPlays.{may_look}
-use Rattle.running_rw_writer.proofs.RwWriterTries.{sees_it}
+use Rattle.running_rw_writer.proofs.AnswerNames.{None, Call, RwWriterPlace, sights_of, seen, refl, looks_alone, may_look, sees_it}
 use Rattle.running_rw_writer.proofs.RwLockWriterPreference.look_to_write.Goals as goal
 
 pub load-requires-clause-may : goal.load-requires-clause-may

@@ -1,4 +1,4 @@
-use Rattle.running_rw_writer.proofs.Names.{refl}
+use Rattle.running_rw_writer.proofs.AnswerNames.{refl}
 use Rattle.running_rw_writer.proofs.RwLockWriterPreference.read_lock.Goals as goal
 
 pub returns : goal.returns

@@ -1,8 +1,4 @@
-use Rattle.running_rw_writer.specs.Names.{None, Call, RwWriterPlace}
-use Rattle.running_rw_writer.proofs.Names.{◌+◌, refl}
-use Rattle.running_rw_writer.proofs.RwWriterKeeps.{made_mark}
-use Rattle.running_rw_writer.proofs.RwWriterPlays.{comes_to_mark, may_mark, marked, mark_missed}
-use Rattle.running_rw_writer.proofs.RwWriterTries.{set_it, missed_it}
+use Rattle.running_rw_writer.proofs.AnswerNames.{None, Call, RwWriterPlace, ◌+◌, refl, made_mark, comes_to_mark, may_mark, marked, mark_missed, set_it, missed_it}
 use Rattle.running_rw_writer.proofs.RwLockWriterPreference.set_mark.Goals as goal
 
 pub exchange-found-requires-clause-may : goal.exchange-found-requires-clause-may

@@ -1,6 +1,4 @@
-use Rattle.running_rw_writer.proofs.Names.{arith, ◌+◌, ◌∙◌, MatchBool-at_true, MatchBool-at_false}
-use Rattle.running_rw_writer.proofs.RwWriterPlays.{spins_on, all_spun}
-use Rattle.running_rw_writer.proofs.RwWriterTries.{tried_again}
+use Rattle.running_rw_writer.proofs.AnswerNames.{arith, ◌+◌, ◌∙◌, MatchBool-at_true, MatchBool-at_false, spins_on, all_spun, tried_again}
 use Rattle.running_rw_writer.proofs.RwLockWriterPreference.spin_to_write.Goals as goal
 
 pub enter_or_mark-entered-requires-clause-at : goal.enter_or_mark-entered-requires-clause-at

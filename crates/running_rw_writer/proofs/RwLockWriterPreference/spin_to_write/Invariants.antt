@@ -1,7 +1,4 @@
-use Rattle.running_rw_writer.specs.Names.{spins, parties_of, spun}
-use Rattle.running_rw_writer.proofs.Names.{◌≡◌}
-use Rattle.running_rw_writer.specs.RwWriterParties.{OnceWriting, WriteGoes}
-use Rattle.running_rw_writer.specs.RwWriterShown.{HasTried}
+use Rattle.running_rw_writer.proofs.AnswerNames.{spins, parties_of, spun, ◌≡◌, OnceWriting, WriteGoes, HasTried}
 use Rattle.running_rw_writer.proofs.RwLockWriterPreference.spin_to_write.Given as goal
 
 abbrev pub invariant-loop : goal.invariant-loop

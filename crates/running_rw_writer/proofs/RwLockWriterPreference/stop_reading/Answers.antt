@@ -1,8 +1,4 @@
-use Rattle.running_rw_writer.specs.Names.{Call, HoldKind, Leaver, released, View, Pass, sights_of, parties_of, MarkedHolds}
-use Rattle.running_rw_writer.proofs.Names.{Some, ◌∙◌, sym, ap, subst}
-use Rattle.running_rw_writer.specs.RwWriterSteps.{PlayedRwWriter}
-use Rattle.running_rw_writer.specs.RwWriterParties.{Unlocks, unlocked}
-use Rattle.running_rw_writer.proofs.RwWriterPlays.{unlocking, last_reader, wakes_writer, other_is_over}
+use Rattle.running_rw_writer.proofs.AnswerNames.{Call, HoldKind, Leaver, released, View, Pass, sights_of, parties_of, MarkedHolds, Some, ◌∙◌, sym, ap, subst, PlayedRwWriter, Unlocks, unlocked, unlocking, last_reader, wakes_writer, other_is_over}
 use Rattle.running_rw_writer.proofs.RwLockWriterPreference.stop_reading.Goals as goal
 
 pub end-pass-requires-clause-over : goal.end-pass-requires-clause-over

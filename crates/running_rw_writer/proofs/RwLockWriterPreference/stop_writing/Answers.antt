@@ -1,8 +1,4 @@
-use Rattle.running_rw_writer.specs.Names.{Call, HoldKind, After, Leaver, RwWriterPlace, Pass, parties_of}
-use Rattle.running_rw_writer.proofs.Names.{refl, subst}
-use Rattle.running_rw_writer.specs.RwWriterSteps.{PlayedRwWriter}
-use Rattle.running_rw_writer.specs.RwWriterParties.{Unlocks}
-use Rattle.running_rw_writer.proofs.RwWriterPlays.{unlocking}
+use Rattle.running_rw_writer.proofs.AnswerNames.{Call, HoldKind, After, Leaver, RwWriterPlace, Pass, parties_of, refl, subst, PlayedRwWriter, Unlocks, unlocking}
 use Rattle.running_rw_writer.proofs.RwLockWriterPreference.stop_writing.Goals as goal
 
 pub count_up-last-requires-clause-at : goal.count_up-last-requires-clause-at

@@ -1,8 +1,4 @@
-use Rattle.running_rw_writer.specs.Names.{None, Call, RwWriterPlace}
-use Rattle.running_rw_writer.proofs.Names.{◌-◌, refl}
-use Rattle.running_rw_writer.proofs.RwWriterKeeps.{made_unmark}
-use Rattle.running_rw_writer.proofs.RwWriterPlays.{comes_to_unmark, may_unmark, unmarked, unmark_missed}
-use Rattle.running_rw_writer.proofs.RwWriterTries.{took_it, missed_it}
+use Rattle.running_rw_writer.proofs.AnswerNames.{None, Call, RwWriterPlace, ◌-◌, refl, made_unmark, comes_to_unmark, may_unmark, unmarked, unmark_missed, took_it, missed_it}
 use Rattle.running_rw_writer.proofs.RwLockWriterPreference.take_mark.Goals as goal
 
 pub exchange-found-requires-clause-may : goal.exchange-found-requires-clause-may

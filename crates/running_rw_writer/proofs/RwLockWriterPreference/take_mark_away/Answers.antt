@@ -1,6 +1,4 @@
-use Rattle.running_rw_writer.proofs.Names.{◌∙◌, rules}
-use Rattle.running_rw_writer.proofs.RwWriterPlays.{leaves}
-use Rattle.running_rw_writer.proofs.RwWriterTries.{unmarks_some, unmarks_none, gives_up, gave_up_after}
+use Rattle.running_rw_writer.proofs.AnswerNames.{◌∙◌, rules, leaves, unmarks_some, unmarks_none, gives_up, gave_up_after}
 use Rattle.running_rw_writer.proofs.RwLockWriterPreference.take_mark_away.Goals as goal
 
 pub returns-in_default-clause-played : goal.returns-in_default-clause-played

@@ -1,7 +1,4 @@
-use Rattle.running_rw_writer.specs.Names.{unmarks_or_leaves, parties_of}
-use Rattle.running_rw_writer.proofs.Names.{◌≡◌}
-use Rattle.running_rw_writer.specs.RwWriterParties.{OnceWriting, WriteGoes}
-use Rattle.running_rw_writer.specs.RwWriterShown.{HasTried, HasJustSeen, MayGiveUp}
+use Rattle.running_rw_writer.proofs.AnswerNames.{unmarks_or_leaves, parties_of, ◌≡◌, OnceWriting, WriteGoes, HasTried, HasJustSeen, MayGiveUp}
 use Rattle.running_rw_writer.proofs.RwLockWriterPreference.take_mark_away.Given as goal
 
 abbrev pub invariant-loop : goal.invariant-loop

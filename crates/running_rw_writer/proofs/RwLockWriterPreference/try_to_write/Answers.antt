@@ -1,9 +1,4 @@
-use Rattle.running_rw_writer.specs.Names.{Call, Answer, HoldKind, Pass, parties_of, rw_writer_model}
-use Rattle.running_rw_writer.proofs.Names.{◌≡◌, ◌==◌, true, Some, None, MatchBool, ◌∙◌, sym, subst, MatchBool-at_true, either_is_over}
-use Rattle.running_rw_writer.specs.RwWriterSteps.{PlayedRwWriter}
-use Rattle.running_rw_writer.specs.RwWriterParties.{has_hold}
-use Rattle.running_rw_writer.specs.RwWriterShown.{HasPlayed}
-use Rattle.running_rw_writer.proofs.RwWriterPlays.{wrote_once, granted_has}
+use Rattle.running_rw_writer.proofs.AnswerNames.{Call, Answer, HoldKind, Pass, parties_of, rw_writer_model, ◌≡◌, ◌==◌, true, Some, None, MatchBool, ◌∙◌, sym, subst, MatchBool-at_true, either_is_over, PlayedRwWriter, has_hold, HasPlayed, wrote_once, granted_has}
 use Rattle.running_rw_writer.proofs.RwLockWriterPreference.try_to_write.Goals as goal
 
 pub end-pass-requires-clause-over : goal.end-pass-requires-clause-over

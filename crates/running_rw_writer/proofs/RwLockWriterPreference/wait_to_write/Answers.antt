@@ -1,10 +1,4 @@
-use Rattle.running_rw_writer.specs.RwWriterShown.{HasEnteredSeenFree, HasGivenUpWriting}
-use Rattle.running_rw_writer.proofs.RwWriterTries.{entered_after, tried_again, ends_after}
-use Rattle.running_rw_writer.specs.Names.{Call, HoldKind, Pass, sights_of, HasWoken, all_of, parties_of}
-use Rattle.running_rw_writer.proofs.Names.{◌≡◌, ◌∙◌, true, sym, subst, MatchBool-at_true, MatchBool-at_false, MatchBool}
-use Rattle.running_rw_writer.specs.RwWriterSteps.{PlayedRwWriter, IsMarked}
-use Rattle.running_rw_writer.specs.RwWriterParties.{has_hold}
-use Rattle.running_rw_writer.proofs.RwWriterPlays.{granted_has}
+use Rattle.running_rw_writer.proofs.AnswerNames.{HasEnteredSeenFree, HasGivenUpWriting, Call, HoldKind, Pass, sights_of, HasWoken, all_of, parties_of, ◌≡◌, ◌∙◌, true, sym, subst, MatchBool-at_true, MatchBool-at_false, MatchBool, PlayedRwWriter, IsMarked, has_hold, entered_after, tried_again, ends_after, granted_has}
 use Rattle.running_rw_writer.proofs.RwLockWriterPreference.wait_to_write.Goals as goal
 
 pub returns-then-at_once-clause-has : goal.returns-then-at_once-clause-has

@@ -1,8 +1,4 @@
-use Rattle.running_rw_writer.specs.Names.{Pass, parties_of}
-use Rattle.running_rw_writer.proofs.Names.{◌∙◌, sym, subst}
-use Rattle.running_rw_writer.specs.RwWriterParties.{IsToWakeBoth}
-use Rattle.running_rw_writer.specs.RwWriterSteps.{PlayedRwWriter}
-use Rattle.running_rw_writer.proofs.RwWriterPlays.{both_are_over}
+use Rattle.running_rw_writer.proofs.AnswerNames.{Pass, parties_of, ◌∙◌, sym, subst, IsToWakeBoth, PlayedRwWriter, both_are_over}
 use Rattle.running_rw_writer.proofs.RwLockWriterPreference.wake_both.Goals as goal
 
 pub end_after_two-requires-clause-over : goal.end_after_two-requires-clause-over

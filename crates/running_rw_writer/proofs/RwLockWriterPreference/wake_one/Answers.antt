@@ -1,8 +1,4 @@
-use Rattle.running_rw_writer.specs.Names.{After, Leaver, RwWriterPlace, Pass, parties_of}
-use Rattle.running_rw_writer.proofs.Names.{sym, subst}
-use Rattle.running_rw_writer.specs.RwWriterParties.{SomeCallGoes}
-use Rattle.running_rw_writer.specs.RwWriterSteps.{PlayedRwWriter}
-use Rattle.running_rw_writer.proofs.RwWriterPlays.{reader_is_over}
+use Rattle.running_rw_writer.proofs.AnswerNames.{After, Leaver, RwWriterPlace, Pass, parties_of, sym, subst, SomeCallGoes, PlayedRwWriter, reader_is_over}
 use Rattle.running_rw_writer.proofs.RwLockWriterPreference.wake_one.Goals as goal
 
 pub end_aside-requires-clause-over : goal.end_aside-requires-clause-over

@@ -1,7 +1,4 @@
-use Rattle.running_semaphore.specs.Names.{Word, Intent, sights_after, Beginning, MayStep, Went, parties_of, counted, Told, HasDone, permits_after, semaphore_model}
-use Rattle.running_semaphore.proofs.Names.{[], ◌∷◌, sym, subst}
-use Rattle.running_semaphore.specs.SemaphoreShown.{initial_of, HasPlayedPost}
-use Rattle.running_semaphore.specs.SemaphoreSteps.{gave}
+use Rattle.running_semaphore.proofs.Names.{Word, Intent, sights_after, Beginning, MayStep, Went, parties_of, counted, Told, HasDone, permits_after, semaphore_model, [], ◌∷◌, sym, subst, initial_of, HasPlayedPost, gave}
 use Rattle.running_semaphore.proofs.SemaphoreKeeps.{gives}
 use Rattle.running_semaphore.proofs.SemaphorePlays.{may_add, posts}
 use Rattle.running_semaphore.proofs.Semaphore.add.Goals as goal

@@ -1,5 +1,4 @@
-use Rattle.running_semaphore.specs.Names.{parties_of, counts_of}
-use Rattle.running_semaphore.proofs.Names.{arith}
+use Rattle.running_semaphore.proofs.Names.{parties_of, counts_of, arith}
 use Rattle.running_semaphore.proofs.SemaphoreKeeps.{closed_there}
 use Rattle.running_semaphore.proofs.Semaphore.close.Goals as goal
 

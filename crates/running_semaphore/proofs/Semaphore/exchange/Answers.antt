@@ -1,5 +1,4 @@
-use Rattle.running_semaphore.specs.Names.{Going, view}
-use Rattle.running_semaphore.proofs.Names.{arith}
+use Rattle.running_semaphore.proofs.Names.{Going, view, arith}
 use Rattle.running_semaphore.proofs.SemaphoreKeeps.{takes, misses, exchanged_there}
 use Rattle.running_semaphore.proofs.Semaphore.exchange.Goals as goal
 

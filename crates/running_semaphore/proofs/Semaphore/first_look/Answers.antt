@@ -1,6 +1,4 @@
-use Rattle.running_semaphore.specs.Names.{Word, Intent, IsWhole, part_of, Beginning, MayStep, Went, HasSeen, parties_of, semaphore_model}
-use Rattle.running_semaphore.proofs.Names.{[], ◌∷◌, sym, subst, ◌≡◌, ◌≤◌}
-use Rattle.running_semaphore.specs.SemaphoreShown.{initial_of, worth_of, given_of, taken_of}
+use Rattle.running_semaphore.proofs.Names.{Word, Intent, IsWhole, part_of, Beginning, MayStep, Went, HasSeen, parties_of, semaphore_model, [], ◌∷◌, sym, subst, ◌≡◌, ◌≤◌, initial_of, worth_of, given_of, taken_of}
 use Rattle.running_semaphore.proofs.Semaphore.first_look.Goals as goal
 
 pub look-requires-clause-may : goal.look-requires-clause-may

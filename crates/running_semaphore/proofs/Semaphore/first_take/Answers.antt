@@ -1,7 +1,4 @@
-use Rattle.running_semaphore.specs.Names.{IsWhole, LooksOnceOrMisses, part_of, sights_of, Beginning, HasSeen, WasRefused, parties_of}
-use Rattle.running_semaphore.proofs.Names.{◌≡◌, ◌<◌, MatchBool, sym, subst}
-use Rattle.running_semaphore.specs.SemaphoreParties.{MayWant, HasWanted}
-use Rattle.running_semaphore.specs.SemaphoreShown.{initial_of, worth_of, IsEmpty, HasTaken, HasTakenAtOnce}
+use Rattle.running_semaphore.proofs.Names.{IsWhole, LooksOnceOrMisses, part_of, sights_of, Beginning, HasSeen, WasRefused, parties_of, ◌≡◌, ◌<◌, MatchBool, sym, subst, MayWant, HasWanted, initial_of, worth_of, IsEmpty, HasTaken, HasTakenAtOnce}
 use Rattle.running_semaphore.proofs.Semaphore.first_take.Goals as goal
 
 pub take-requires-clause-comes : goal.take-requires-clause-comes

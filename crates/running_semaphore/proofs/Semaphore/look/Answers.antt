@@ -1,5 +1,4 @@
-use Rattle.running_semaphore.specs.Names.{view}
-use Rattle.running_semaphore.proofs.Names.{arith}
+use Rattle.running_semaphore.proofs.Names.{view, arith}
 use Rattle.running_semaphore.proofs.SemaphoreKeeps.{loads, loaded_there}
 use Rattle.running_semaphore.proofs.Semaphore.look.Goals as goal
 

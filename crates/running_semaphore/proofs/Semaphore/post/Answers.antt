@@ -1,7 +1,4 @@
-use Rattle.running_semaphore.specs.Names.{HasDone, parties_of}
-use Rattle.running_semaphore.proofs.Names.{sym, subst, ◌∙◌}
-use Rattle.running_semaphore.specs.SemaphoreShown.{initial_of, HasPlayedPost}
-use Rattle.running_semaphore.specs.SemaphoreSteps.{gave}
+use Rattle.running_semaphore.proofs.Names.{HasDone, parties_of, sym, subst, ◌∙◌, initial_of, HasPlayedPost, gave}
 use Rattle.running_semaphore.proofs.SemaphorePlays.{is_to_wake, post_is_over}
 use Rattle.running_semaphore.proofs.Semaphore.post.Goals as goal
 

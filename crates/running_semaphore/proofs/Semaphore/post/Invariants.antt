@@ -1,4 +1,4 @@
-use Rattle.running_semaphore.specs.Names.{Call}
+use Rattle.running_semaphore.proofs.Names.{Call}
 use Rattle.running_semaphore.proofs.Semaphore.post.Given as goal
 
 abbrev pub ghosts-add : goal.ghosts-add

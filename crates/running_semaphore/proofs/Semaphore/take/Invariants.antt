@@ -1,7 +1,4 @@
-use Rattle.running_semaphore.specs.Names.{IsWhole, HasLooked, LooksOnceOrMisses, part_of, sights_of, looked, counted, parties_of, HasOnlySeen}
-use Rattle.running_semaphore.proofs.Names.{◌≡◌, true}
-use Rattle.running_semaphore.specs.SemaphoreParties.{OnceWanting, HasLooked as HasLookedThere}
-use Rattle.running_semaphore.specs.SemaphoreShown.{initial_of, worth_of}
+use Rattle.running_semaphore.proofs.Names.{IsWhole, HasLooked, LooksOnceOrMisses, part_of, sights_of, looked, counted, parties_of, HasOnlySeen, ◌≡◌, true, OnceWanting, HasLookedThere, initial_of, worth_of}
 use Rattle.running_semaphore.proofs.Semaphore.take.Given as goal
 
 -- the value seen is the last one that was seen, by the first look or by an exchange that missed

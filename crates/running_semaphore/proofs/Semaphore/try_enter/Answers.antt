@@ -1,7 +1,4 @@
-use Rattle.running_semaphore.specs.Names.{Call, Answer, WasRefused, parties_of, semaphore_model}
-use Rattle.running_semaphore.proofs.Names.{MatchBool, sym, subst, ◌∙◌, either_is_over}
-use Rattle.running_semaphore.specs.SemaphoreShown.{initial_of, IsEmpty, HasPlayed, HasTaken}
-use Rattle.running_semaphore.specs.SemaphoreParties.{Trying}
+use Rattle.running_semaphore.proofs.Names.{Call, Answer, WasRefused, parties_of, semaphore_model, MatchBool, sym, subst, ◌∙◌, either_is_over, initial_of, IsEmpty, HasPlayed, HasTaken, Trying}
 use Rattle.running_semaphore.proofs.SemaphorePlays.{may_try_wait, try_begins}
 use Rattle.running_semaphore.proofs.Semaphore.try_enter.Goals as goal
 

@@ -1,6 +1,4 @@
-use Rattle.running_semaphore.specs.Names.{Call, Answer, semaphore_model}
-use Rattle.running_semaphore.proofs.Names.{sym, subst, ◌∙◌, is_over}
-use Rattle.running_semaphore.specs.SemaphoreShown.{initial_of, HasPlayed}
+use Rattle.running_semaphore.proofs.Names.{Call, Answer, semaphore_model, sym, subst, ◌∙◌, is_over, initial_of, HasPlayed}
 use Rattle.running_semaphore.proofs.SemaphorePlays.{may_tell, tells}
 use Rattle.running_semaphore.proofs.Semaphore.value.Goals as goal
 

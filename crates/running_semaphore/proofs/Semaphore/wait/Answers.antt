@@ -1,5 +1,4 @@
-use Rattle.running_semaphore.specs.Names.{Call}
-use Rattle.running_semaphore.specs.SemaphoreShown.{initial_of, HasPlayed}
+use Rattle.running_semaphore.proofs.Names.{Call, initial_of, HasPlayed}
 use Rattle.running_semaphore.proofs.SemaphorePlays.{answered_so}
 use Rattle.running_semaphore.proofs.SemaphoreTakes.{if_taken, if_not_taken, takes_some}
 use Rattle.running_semaphore.proofs.Semaphore.wait.Goals as goal

@@ -1,5 +1,4 @@
-use Rattle.running_spin_lock.specs.Names.{rest}
-use Rattle.running_spin_lock.proofs.Names.{◌∷◌, Some, sym, ap, ◌∙◌}
+use Rattle.running_spin_lock.proofs.Names.{rest, ◌∷◌, Some, sym, ap, ◌∙◌}
 use Rattle.running_spin_lock.proofs.slot.take.Goals as goal
 
 pub exchange-requires : goal.exchange-requires

@@ -17,16 +17,10 @@ returns-in-Ok-Some-clause-stride g c o parties past stands =
       walk_stands g.T.AtomicInteger.arithmetic g.T.TextInteger.numerals o parties past left c.next_events.new.left _ c.in-Ok-Some.found _ c.in-Ok-Some.field-0-is turn,
     )
 
-pub returns-in-Ok-Some-clause-countable : goal.returns-in-Ok-Some-clause-countable
-returns-in-Ok-Some-clause-countable g c = c.loop-found.invariant.0
-
 pub returns-in-Err-clause-stride : goal.returns-in-Err-clause-stride
 returns-in-Err-clause-stride g c o parties past stands =
     let here = c.loop-found.invariant.2 o parties past stands in
     here.0 ∙ walk_stops g.T.AtomicInteger.arithmetic g.T.TextInteger.numerals o parties c.loop-found.rest.line past c.loop-found.rest.left c.next_events.new.left c.loop-found.rest.lines.now c.in-Err.fault c.next_events.new.machine (c.in-Err.ensures.turn o parties past here.1)
-
-pub returns-in-Err-clause-countable : goal.returns-in-Err-clause-countable
-returns-in-Err-clause-countable g c = c.loop-found.invariant.0
 
 pub returns-in_default-clause-stride : goal.returns-in_default-clause-stride
 returns-in_default-clause-stride g c o parties past stands =
@@ -39,14 +33,8 @@ returns-in_default-clause-stride g c o parties past stands =
       pass_stands g.T.AtomicInteger.arithmetic g.T.TextInteger.numerals o parties past left c.next_events.new.left _ _ c.in-Ok-None.field-0-is turn,
     )
 
-pub returns-in_default-clause-countable : goal.returns-in_default-clause-countable
-returns-in_default-clause-countable g c = c.loop-found.invariant.0
-
 pub overflow_add-rest : goal.overflow_add-rest
 overflow_add-rest g c = omega (arith, c.loop-found.invariant.0, c.in-Some.ensures.shorter)
-
-pub loop-found-smaller : goal.loop-found-smaller
-loop-found-smaller g c = c.in-Some.ensures.shorter
 
 pub loop-found-preserved : goal.loop-found-preserved
 loop-found-preserved g c = (

@@ -1,9 +1,6 @@
-use Rattle.running_atomic.specs.Names.{HoldKind, parties_of, key_of}
-use Rattle.running_atomic.proofs.Names.{Some, sym, subst}
-use Rattle.running_atomic.specs.AtomicParties.{Knows}
+use Rattle.running_atomic.proofs.Names.{HoldKind, parties_of, key_of, Some, sym, subst, Knows}
 use Rattle.running_atomic.proofs.AtomicPlays.{reads_next, may_read_low, reads_low, may_read_high, reads_high}
-use Rattle.running_atomic.proofs.Compares.{compared, low_read, on_already}
-use Rattle.running_atomic.specs.AtomicRule.{IsWritten}
+use Rattle.running_atomic.proofs.OverCalls.{low_read}
 use Rattle.running_atomic.proofs.calls.Atomic.compare.Goals as goal
 
 pub read_low-low-requires-clause-may : goal.read_low-low-requires-clause-may
@@ -25,11 +22,3 @@ compare_high-high-requires-clause-compares g c κs within = record {
 pub returns-clause-knows : goal.returns-clause-knows
 returns-clause-knows g c = λ done at. subst (λ x. Knows g.T.AtomicInteger.arithmetic (key_of c.args.self.now.stage) g.L.Called.call x done (parties_of c.compare_high-high.result.1.pass.now)) (sym c.from_words.ensures.given)
     (reads_high _ _ _ _ _ (Some HoldKind.Write) _ _ _ (reads_low _ _ _ (Some HoldKind.Write) _ _ _ _ (reads_next _ _ _ _ _ c.requires.reads at) c.read_low-low.ensures.went) c.compare_high-high.ensures.went)
-
-pub returns-clause-compared : goal.returns-clause-compared
-returns-clause-compared g c =
-    compared g.T.AtomicInteger.arithmetic (key_of c.args.self.now.stage) c.args.by.now.act c.args.by.now.current c.from_words.result c.read_low-low.result.0 c.compare_high-high.result.0 c.args.turn.pass.now c.args.turn.pass.now c.read_low-low.result.1.pass.now c.compare_high-high.result.1.pass.now (on_already c.args.turn.pass.now c.requires.on) c.read_low-low.ensures.same
-    c.read_low-low.ensures.read c.compare_high-high.ensures.same c.compare_high-high.ensures.compared c.from_words.ensures.given
-
-pub compare_high-high-requires-clause-written : goal.compare_high-high-requires-clause-written
-compare_high-high-requires-clause-written g c κs within = subst (IsWritten g.T.AtomicInteger.arithmetic) (sym c.requires.acts) c.requires.written

@@ -1,6 +1,4 @@
-use Rattle.running_atomic.specs.Names.{key_of}
 use Rattle.running_atomic.proofs.AtomicPlays.{nothing_chosen, may_read_again, reads_again, may_leave, leaves}
-use Rattle.running_atomic.proofs.OverCalls.{has_unchanged, settles_unchanged}
 use Rattle.running_atomic.proofs.calls.Atomic.keep.Goals as goal
 
 pub end_unchanged-acted-requires-clause-may : goal.end_unchanged-acted-requires-clause-may
@@ -9,14 +7,8 @@ end_unchanged-acted-requires-clause-may g c κs within = may_read_again _ _ _ _ 
 pub end_unchanged-acted-requires-clause-again : goal.end_unchanged-acted-requires-clause-again
 end_unchanged-acted-requires-clause-again g c κs within = record { old = _; done = _; comes = nothing_chosen _ _ _ _ _ c.requires.knows.2 }
 
-pub leave_write-requires-clause-on : goal.leave_write-requires-clause-on
-leave_write-requires-clause-on g c κs within = settles_unchanged g.T.AtomicInteger.arithmetic (key_of c.args.self.now.stage) c.args.turn.pass.now c.end_unchanged-acted.result.pass.now c.requires.on c.end_unchanged-acted.ensures.ended
-
 pub leave_write-requires-clause-may : goal.leave_write-requires-clause-may
 leave_write-requires-clause-may g c κs within = may_leave _ _ _ _ _ _ (reads_again _ _ _ _ _ _ _ c.requires.knows.2 c.end_unchanged-acted.ensures.went.1)
-
-pub returns-clause-acted : goal.returns-clause-acted
-returns-clause-acted g c = λ old holding. has_unchanged g.T.AtomicInteger.arithmetic (key_of c.args.self.now.stage) old c.args.turn.pass.now c.end_unchanged-acted.result.pass.now c.leave_write.result.pass.now holding c.end_unchanged-acted.ensures.same c.end_unchanged-acted.ensures.ended c.leave_write.ensures.same c.leave_write.ensures.left
 
 pub returns-clause-played : goal.returns-clause-played
 returns-clause-played g c = λ old done knows. leaves _ _ _ _ _ _ _ (reads_again _ _ _ _ _ _ _ knows c.end_unchanged-acted.ensures.went.1) c.leave_write.ensures.went

@@ -1,11 +1,5 @@
 use Rattle.running_atomic.proofs.AtomicKeeps.{read_leaves}
 use Rattle.running_atomic.proofs.calls.Atomic.leave_read.Goals as goal
 
-pub subtract-next-requires-clause-needs : goal.subtract-next-requires-clause-needs
-subtract-next-requires-clause-needs g c = λ name found named. c.requires.on
-
-pub returns-clause-went : goal.returns-clause-went
-returns-clause-went g c = (_, c.subtract-next.ensures.went)
-
 pub returns-clause-left : goal.returns-clause-left
 returns-clause-left g c = read_leaves _ _ _ _ c.args.turn.pass.now c.subtract-next.result.1.pass.now c.requires.may c.subtract-next.ensures.acted

@@ -1,14 +1,7 @@
-use Rattle.running_atomic.specs.Names.{Call, Answer, HoldKind, all_of, HasCalled, Pass, parties_of, counts_of, Free, plain, key_of}
-use Rattle.running_atomic.proofs.Names.{◌≡◌, Some, None, sym, subst, ◌∙◌, is_over}
-use Rattle.running_atomic.specs.AtomicShown.{HasActedAt}
-use Rattle.running_atomic.specs.AtomicModel.{atomic_model}
-use Rattle.running_atomic.specs.AtomicSteps.{PlayedAtomic}
+use Rattle.running_atomic.proofs.Names.{Call, Answer, HoldKind, HasCalled, Pass, parties_of, key_of, Some, None, sym, subst, ◌∙◌, is_over, atomic_model, PlayedAtomic}
+use Rattle.running_atomic.specs.Names.{all_of}
 use Rattle.running_atomic.proofs.AtomicPlays.{looks_first, may_read_low, reads_low, may_read_high, reads_high, may_leave_reading, leaves_reading}
-use Rattle.running_atomic.proofs.OverCalls.{has_loaded, rests_left, still_looked, got_later, rests_still}
 use Rattle.running_atomic.proofs.calls.Atomic.load_by.Goals as goal
-
-pub read_from-locked-requires-clause-rest : goal.read_from-locked-requires-clause-rest
-read_from-locked-requires-clause-rest g c κs within = rests_still c.args.pass.now c.first_look-seen.result.1.pass.now (still_looked c.args.pass.now c.first_look-seen.result.1.pass.now _ c.first_look-seen.ensures.same c.first_look-seen.ensures.saw) c.requires.rest
 
 pub read_from-locked-requires-clause-at : goal.read_from-locked-requires-clause-at
 read_from-locked-requires-clause-at g c κs within = (all_of (parties_of c.args.pass.now), looks_first _ _ _ _ _ c.first_look-seen.ensures.went)
@@ -29,13 +22,6 @@ leave_read-last-requires-clause-may g c κs within =
 pub end-pass-requires-clause-over : goal.end-pass-requires-clause-over
 end-pass-requires-clause-over g c = is_over _ Call.Load _ None _ _ (leaves_reading _ _ Call.Load _ _ _ _ _ (reads_high _ _ Call.Load _ _ (Some HoldKind.Read) _ _ _ (reads_low _ _ Call.Load (Some HoldKind.Read) _ _ _ _ (c.read_from-locked.ensures.next _ (looks_first _ _ _ _ _ c.first_look-seen.ensures.went)) c.read_low-low.ensures.went) c.end_load-high.ensures.went) c.leave_read-last.ensures.went.1)
 
-pub returns-clause-rest : goal.returns-clause-rest
-returns-clause-rest g c = subst (λ (q : Pass (PlayedAtomic g.row.T.Denot)). (counts_of q).hold ≡ Free) (sym (c.pass-1.given.1 (sym c.first_look-seen.ensures.same_borrow ∙ sym c.read_from-locked.ensures.same_borrow ∙ sym c.read_low-low.ensures.same_borrow ∙ sym c.end_load-high.ensures.same_borrow ∙ sym c.leave_read-last.ensures.same_borrow ∙ sym c.end-pass.ensures.same_borrow) ∙ c.end-pass.ensures.still)) (rests_left c.end_load-high.result.1.pass.now c.leave_read-last.result.pass.now c.leave_read-last.ensures.left)
-
 pub returns-clause-played : goal.returns-clause-played
 returns-clause-played g c = subst (λ (q : Pass (PlayedAtomic g.row.T.Denot)). HasCalled (atomic_model g.T.AtomicInteger.arithmetic (key_of c.args.self.now.stage)) Call.Load (Answer.Value c.from_words.result) None (parties_of c.args.pass.now) (parties_of q)) (sym (c.pass-1.given.1 (sym c.first_look-seen.ensures.same_borrow ∙ sym c.read_from-locked.ensures.same_borrow ∙ sym c.read_low-low.ensures.same_borrow ∙ sym c.end_load-high.ensures.same_borrow ∙ sym c.leave_read-last.ensures.same_borrow ∙ sym c.end-pass.ensures.same_borrow) ∙ c.end-pass.ensures.still)) (subst (λ x. HasCalled (atomic_model g.T.AtomicInteger.arithmetic (key_of c.args.self.now.stage)) Call.Load (Answer.Value x) None (parties_of c.args.pass.now) (parties_of c.leave_read-last.result.pass.now)) (sym c.from_words.ensures.given)
     (leaves_reading _ _ Call.Load _ _ _ _ _ (reads_high _ _ Call.Load _ _ (Some HoldKind.Read) _ _ _ (reads_low _ _ Call.Load (Some HoldKind.Read) _ _ _ _ (c.read_from-locked.ensures.next _ (looks_first _ _ _ _ _ c.first_look-seen.ensures.went)) c.read_low-low.ensures.went) c.end_load-high.ensures.went) c.leave_read-last.ensures.went.1))
-
-pub returns-clause-acted : goal.returns-clause-acted
-returns-clause-acted g c = subst (λ (q : Pass (PlayedAtomic g.row.T.Denot)). HasActedAt g.T.AtomicInteger.arithmetic (key_of c.args.self.now.stage) (plain Call.Load) (Answer.Value c.from_words.result) c.args.pass.now q) (sym (c.pass-1.given.1 (sym c.first_look-seen.ensures.same_borrow ∙ sym c.read_from-locked.ensures.same_borrow ∙ sym c.read_low-low.ensures.same_borrow ∙ sym c.end_load-high.ensures.same_borrow ∙ sym c.leave_read-last.ensures.same_borrow ∙ sym c.end-pass.ensures.same_borrow) ∙ c.end-pass.ensures.still)) (has_loaded _ _ _ _ _ c.args.pass.now c.read_from-locked.result.pass.now c.read_low-low.result.1.pass.now c.end_load-high.result.1.pass.now c.leave_read-last.result.pass.now (got_later _ c.args.pass.now c.first_look-seen.result.1.pass.now c.read_from-locked.result.pass.now (still_looked c.args.pass.now c.first_look-seen.result.1.pass.now _ c.first_look-seen.ensures.same c.first_look-seen.ensures.saw) c.read_from-locked.ensures.on) c.read_low-low.ensures.same c.read_low-low.ensures.read
-    c.end_load-high.ensures.same c.end_load-high.ensures.ended c.leave_read-last.ensures.same c.leave_read-last.ensures.left c.from_words.ensures.given)

@@ -1,6 +1,4 @@
-use Rattle.running_atomic.proofs.Names.{◌∙◌}
 use Rattle.running_atomic.proofs.AtomicPlays.{may_put_low, puts_low, may_put_high, at_put_high, puts_high, may_leave, has_put}
-use Rattle.running_atomic.proofs.OverCalls.{right_at_high, settles_again, has_put_by}
 use Rattle.running_atomic.proofs.calls.Atomic.put.Goals as goal
 
 pub store_low-stored-requires-clause-may : goal.store_low-stored-requires-clause-may
@@ -18,13 +16,3 @@ leave_write-requires-clause-may g c κs within = let may = c.requires.may in
 
 pub returns-clause-put : goal.returns-clause-put
 returns-clause-put g c = has_put _ _ _ _ _ _ _ (puts_high _ _ _ _ _ _ _ _ (puts_low _ _ _ _ _ _ _ c.to_words-low.ensures.low c.store_low-stored.ensures.went) c.end_store-acted.ensures.went) c.leave_write.ensures.went
-
-pub end_store-acted-requires-clause-right : goal.end_store-acted-requires-clause-right
-end_store-acted-requires-clause-right g c κs within = let words = c.to_words-low.ensures in let z = g.T.AtomicInteger.arithmetic in
-    right_at_high z c.args.act.now _ _ c.args.new c.args.turn.pass.now c.store_low-stored.result.pass.now c.requires.on c.requires.right ((λ i. z.of_words (words.low i) (words.high i)) ∙ words.value) c.store_low-stored.ensures.stored
-
-pub leave_write-requires-clause-on : goal.leave_write-requires-clause-on
-leave_write-requires-clause-on g c κs within = settles_again _ _ _ _ _ c.args.turn.pass.now c.store_low-stored.result.pass.now c.end_store-acted.result.pass.now c.requires.on c.store_low-stored.ensures.stored c.end_store-acted.ensures.ended
-
-pub returns-clause-acted : goal.returns-clause-acted
-returns-clause-acted g c = has_put_by _ _ _ _ _ c.args.turn.pass.now c.store_low-stored.result.pass.now c.end_store-acted.result.pass.now c.leave_write.result.pass.now c.requires.on c.store_low-stored.ensures.stored c.end_store-acted.ensures.ended c.leave_write.ensures.left

@@ -1,19 +1,10 @@
-use Rattle.running_atomic.proofs.Names.{refl, ◌∙◌}
+use Rattle.running_atomic.proofs.Names.{◌∙◌}
 use Rattle.running_atomic.proofs.AtomicPlays.{reads_some, reads_none, may_look_again, looks_again, may_enter, enters, turned_away}
-use Rattle.running_atomic.proofs.OverCalls.{as_it_was, still_looked, not_reading, still_on, got_reading, got_later, rests_still}
+use Rattle.running_atomic.proofs.OverCalls.{still_looked, not_reading, still_on}
 use Rattle.running_atomic.proofs.calls.Atomic.read_from.Goals as goal
-
-pub loop-init : goal.loop-init
-loop-init g c = record { same_borrow = refl; still = as_it_was c.args.turn.pass.now; at = λ done at. at }
-
-pub enter_read-found-requires-clause-free : goal.enter_read-found-requires-clause-free
-enter_read-found-requires-clause-free g c κs within = rests_still c.args.turn.pass.now c.loop.next.pass.now c.loop.invariant.still c.requires.rest
 
 pub enter_read-found-requires-clause-may : goal.enter_read-found-requires-clause-may
 enter_read-found-requires-clause-may g c κs within = let read = reads_some _ _ _ c.reader_enters.ensures.«open» c.reader_enters.ensures.shut c.in-Some-reader_enters.is in may_enter _ _ _ _ _ _ read.0 read.1 (c.loop.invariant.at c.requires.at.0 c.requires.at.1)
-
-pub returns-then-found-last-clause-on : goal.returns-then-found-last-clause-on
-returns-then-found-last-clause-on g c = got_later _ c.args.turn.pass.now c.loop.next.pass.now c.enter_read-found.result.1.pass.now c.loop.invariant.still (got_reading c.loop.next.pass.now c.enter_read-found.result.1.pass.now _ _ c.if-found-last.true c.enter_read-found.ensures.same c.enter_read-found.ensures.tried)
 
 pub returns-then-found-last-clause-next : goal.returns-then-found-last-clause-next
 returns-then-found-last-clause-next g c = λ done at. enters _ _ _ _ _ _ _ (reads_some _ _ _ c.reader_enters.ensures.«open» c.reader_enters.ensures.shut c.in-Some-reader_enters.is).0 c.if-found-last.true (c.loop.invariant.at done at) c.enter_read-found.ensures.went

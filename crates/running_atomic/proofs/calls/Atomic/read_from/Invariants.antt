@@ -1,7 +1,4 @@
-use Rattle.running_atomic.specs.Names.{Call, look_at, Slot, parties_of, key_of}
-use Rattle.running_atomic.proofs.Names.{◌≡◌, List, None}
-use Rattle.running_atomic.specs.AtomicShown.{IsStill}
-use Rattle.running_atomic.specs.AtomicParties.{IsNext}
+use Rattle.running_atomic.proofs.Names.{Call, look_at, Slot, parties_of, key_of, ◌≡◌, List, None, IsStill, IsNext}
 use Rattle.running_atomic.proofs.calls.Atomic.read_from.Given as goal
 
 abbrev pub invariant-loop : goal.invariant-loop

@@ -1,9 +1,5 @@
-use Rattle.running_atomic.proofs.Names.{ap}
 use Rattle.running_atomic.proofs.AtomicKeeps.{settles}
 use Rattle.running_atomic.proofs.calls.Atomic.settle.Goals as goal
-
-pub returns-clause-stayed : goal.returns-clause-stayed
-returns-clause-stayed g c = ap (λ v. v.tally.parties) c.learn.ensures.learned.now
 
 pub returns-clause-settled : goal.returns-clause-settled
 returns-clause-settled g c = settles _ _ _ _ c.learn.ensures.learned

@@ -1,9 +1,5 @@
-use Rattle.running_atomic.specs.Names.{HoldKind, parties_of, key_of}
-use Rattle.running_atomic.proofs.Names.{Some, sym, subst}
-use Rattle.running_atomic.specs.AtomicParties.{Knows}
+use Rattle.running_atomic.proofs.Names.{HoldKind, parties_of, key_of, Some, sym, subst, Knows}
 use Rattle.running_atomic.proofs.AtomicPlays.{reads_next, may_read_low, reads_low, may_read_high, reads_high}
-use Rattle.running_atomic.proofs.OverCalls.{has_taken}
-use Rattle.running_atomic.proofs.Compares.{on_already}
 use Rattle.running_atomic.proofs.calls.Atomic.take.Goals as goal
 
 pub read_low-low-requires-clause-may : goal.read_low-low-requires-clause-may
@@ -23,7 +19,3 @@ read_high-high-requires-clause-goes_on g c κs within = record {
 pub returns-clause-knows : goal.returns-clause-knows
 returns-clause-knows g c = λ done at. subst (λ x. Knows g.T.AtomicInteger.arithmetic (key_of c.args.self.now.stage) g.L.Called.call x done (parties_of c.read_high-high.result.1.pass.now)) (sym c.from_words.ensures.given)
     (reads_high _ _ _ _ _ (Some HoldKind.Write) _ _ _ (reads_low _ _ _ (Some HoldKind.Write) _ _ _ _ (reads_next _ _ _ _ _ c.requires.reads at) c.read_low-low.ensures.went) c.read_high-high.ensures.went)
-
-pub returns-clause-taken : goal.returns-clause-taken
-returns-clause-taken g c = has_taken _ _ _ _ c.args.turn.pass.now c.args.turn.pass.now c.read_low-low.result.1.pass.now c.read_high-high.result.1.pass.now (on_already c.args.turn.pass.now c.requires.on) c.read_low-low.ensures.same c.read_low-low.ensures.read
-    c.read_high-high.ensures.same c.read_high-high.ensures.read c.from_words.ensures.given

@@ -1,24 +1,10 @@
-use Rattle.running_atomic.specs.Names.{Call, Answer, HoldKind, AtomicPlace, update, all_of, HasCalled, Pass, parties_of, counts_of, key_of, Free}
-use Rattle.running_atomic.proofs.Names.{◌≡◌, Some, None, refl, sym, subst, rules, ◌∙◌, is_over}
-use Rattle.running_atomic.specs.AtomicModel.{atomic_model}
-use Rattle.running_atomic.specs.AtomicParties.{Knows}
-use Rattle.running_atomic.specs.AtomicShown.{HasActedAt, HasTaken, IsHolding}
-use Rattle.running_atomic.specs.AtomicSteps.{PlayedAtomic}
-use Rattle.running_atomic.proofs.Compares.{taken_later}
-use Rattle.running_atomic.proofs.OverCalls.{acts_after, settles_holding}
+use Rattle.running_atomic.proofs.Names.{Call, Answer, HoldKind, AtomicPlace, update, HasCalled, Pass, parties_of, key_of, Some, None, refl, sym, subst, rules, ◌∙◌, is_over, atomic_model, Knows, HasActedAt, HasTaken, IsHolding, PlayedAtomic}
+use Rattle.running_atomic.specs.Names.{all_of}
+use Rattle.running_atomic.proofs.OverCalls.{acts_after, taken_later}
 use Rattle.running_atomic.proofs.calls.Atomic.update_by.Goals as goal
-
-pub take-old-requires-clause-on : goal.take-old-requires-clause-on
-take-old-requires-clause-on g c κs within = c.write_lock-locked.ensures.on.on
-
-pub take-old-requires-clause-at : goal.take-old-requires-clause-at
-take-old-requires-clause-at g c κs within = (_, c.write_lock-locked.ensures.next)
 
 pub choose-requires-clause-stands : goal.choose-requires-clause-stands
 choose-requires-clause-stands g c = record { call = Call.FetchUpdate; place = AtomicPlace.Again c.take-old.result.0; hold = Some HoldKind.Write; done = _; at = (c.take-old.ensures.knows _ c.write_lock-locked.ensures.next) }
-
-pub put_chosen-last-requires-clause-on : goal.put_chosen-last-requires-clause-on
-put_chosen-last-requires-clause-on g c κs within = settles_holding g.T.AtomicInteger.arithmetic c.take-old.result.0 _ (subst (λ (p : Pass (PlayedAtomic g.row.T.Denot)). IsHolding g.T.AtomicInteger.arithmetic c.take-old.result.0 p) (sym c.in-Value.ensures.still) c.take-old.ensures.taken.holding)
 
 pub put_chosen-last-requires-clause-knows : goal.put_chosen-last-requires-clause-knows
 put_chosen-last-requires-clause-knows g c κs within = (c.take-old.result.0, _, (subst (λ (p : Pass (PlayedAtomic g.row.T.Denot)). Knows g.T.AtomicInteger.arithmetic (key_of c.args.self.now.stage) Call.FetchUpdate c.take-old.result.0 (all_of (parties_of c.args.pass.now)) (parties_of p)) (sym c.in-Value.ensures.still) (c.take-old.ensures.knows _ c.write_lock-locked.ensures.next)))
@@ -34,14 +20,8 @@ returns-in-Value-clause-changed g c = (
       (acts_after g.T.AtomicInteger.arithmetic (key_of c.args.self.now.stage) _ _ _ _ c.take-old.result.0 c.args.pass.now _ c.put_chosen-last.result.pass.now (subst (λ (p : Pass (PlayedAtomic g.row.T.Denot)). HasTaken g.T.AtomicInteger.arithmetic c.take-old.result.0 c.args.pass.now p) (sym c.in-Value.ensures.still) (taken_later g.T.AtomicInteger.arithmetic c.take-old.result.0 c.args.pass.now c.write_lock-locked.result.pass.now c.take-old.result.1.pass.now c.write_lock-locked.ensures.on c.take-old.ensures.taken)) (c.put_chosen-last.ensures.acted c.take-old.result.0 (subst (λ (p : Pass (PlayedAtomic g.row.T.Denot)). IsHolding g.T.AtomicInteger.arithmetic c.take-old.result.0 p) (sym c.in-Value.ensures.still) c.take-old.ensures.taken.holding)) refl refl),
 )
 
-pub returns-in-Value-clause-rest : goal.returns-in-Value-clause-rest
-returns-in-Value-clause-rest g c = subst (λ (q : Pass (PlayedAtomic g.row.T.Denot)). (counts_of q).hold ≡ Free) (sym (c.pass-1.given.1 (sym c.write_lock-locked.ensures.same_borrow ∙ sym c.take-old.ensures.same_borrow ∙ sym c.in-Value.ensures.same_borrow ∙ sym c.put_chosen-last.ensures.same_borrow ∙ sym c.end-pass.ensures.same_borrow) ∙ c.end-pass.ensures.still)) c.put_chosen-last.ensures.rest
-
 pub returns-in-Value-clause-played_changed : goal.returns-in-Value-clause-played_changed
 returns-in-Value-clause-played_changed g c = subst (λ (q : Pass (PlayedAtomic g.row.T.Denot)). HasCalled (atomic_model g.T.AtomicInteger.arithmetic (key_of c.args.self.now.stage)) Call.FetchUpdate (Answer.OkOld c.take-old.result.0) None (parties_of c.args.pass.now) (parties_of q)) (sym (c.pass-1.given.1 (sym c.write_lock-locked.ensures.same_borrow ∙ sym c.take-old.ensures.same_borrow ∙ sym c.in-Value.ensures.same_borrow ∙ sym c.put_chosen-last.ensures.same_borrow ∙ sym c.end-pass.ensures.same_borrow) ∙ c.end-pass.ensures.still)) (c.put_chosen-last.ensures.played c.take-old.result.0 _ (subst (λ (p : Pass (PlayedAtomic g.row.T.Denot)). Knows g.T.AtomicInteger.arithmetic (key_of c.args.self.now.stage) Call.FetchUpdate c.take-old.result.0 (all_of (parties_of c.args.pass.now)) (parties_of p)) (sym c.in-Value.ensures.still) (c.take-old.ensures.knows _ c.write_lock-locked.ensures.next)))
-
-pub keep-last-requires-clause-on : goal.keep-last-requires-clause-on
-keep-last-requires-clause-on g c κs within = settles_holding g.T.AtomicInteger.arithmetic c.take-old.result.0 _ (subst (λ (p : Pass (PlayedAtomic g.row.T.Denot)). IsHolding g.T.AtomicInteger.arithmetic c.take-old.result.0 p) (sym c.in-Nothing.ensures.still) c.take-old.ensures.taken.holding)
 
 pub keep-last-requires-clause-knows : goal.keep-last-requires-clause-knows
 keep-last-requires-clause-knows g c κs within = (c.take-old.result.0, _, (subst (λ (p : Pass (PlayedAtomic g.row.T.Denot)). Knows g.T.AtomicInteger.arithmetic (key_of c.args.self.now.stage) Call.FetchUpdate c.take-old.result.0 (all_of (parties_of c.args.pass.now)) (parties_of p)) (sym c.in-Nothing.ensures.still) (c.take-old.ensures.knows _ c.write_lock-locked.ensures.next)))
@@ -55,9 +35,6 @@ returns-in-Nothing-clause-kept g c = (
   subst (λ (q : Pass (PlayedAtomic g.row.T.Denot)). HasActedAt g.T.AtomicInteger.arithmetic (key_of c.args.self.now.stage) (update None) (Answer.ErrOld c.take-old.result.0) c.args.pass.now q) (sym (c.pass-in-Nothing-1.given.1 (sym c.write_lock-locked.ensures.same_borrow ∙ sym c.take-old.ensures.same_borrow ∙ sym c.in-Nothing.ensures.same_borrow ∙ sym c.keep-last.ensures.same_borrow ∙ sym c.end-pass-in-Nothing.ensures.same_borrow) ∙ c.end-pass-in-Nothing.ensures.still))
       (acts_after g.T.AtomicInteger.arithmetic (key_of c.args.self.now.stage) _ _ _ _ c.take-old.result.0 c.args.pass.now _ c.keep-last.result.pass.now (subst (λ (p : Pass (PlayedAtomic g.row.T.Denot)). HasTaken g.T.AtomicInteger.arithmetic c.take-old.result.0 c.args.pass.now p) (sym c.in-Nothing.ensures.still) (taken_later g.T.AtomicInteger.arithmetic c.take-old.result.0 c.args.pass.now c.write_lock-locked.result.pass.now c.take-old.result.1.pass.now c.write_lock-locked.ensures.on c.take-old.ensures.taken)) (c.keep-last.ensures.acted c.take-old.result.0 (subst (λ (p : Pass (PlayedAtomic g.row.T.Denot)). IsHolding g.T.AtomicInteger.arithmetic c.take-old.result.0 p) (sym c.in-Nothing.ensures.still) c.take-old.ensures.taken.holding)) refl refl),
 )
-
-pub returns-in-Nothing-clause-rest : goal.returns-in-Nothing-clause-rest
-returns-in-Nothing-clause-rest g c = subst (λ (q : Pass (PlayedAtomic g.row.T.Denot)). (counts_of q).hold ≡ Free) (sym (c.pass-in-Nothing-1.given.1 (sym c.write_lock-locked.ensures.same_borrow ∙ sym c.take-old.ensures.same_borrow ∙ sym c.in-Nothing.ensures.same_borrow ∙ sym c.keep-last.ensures.same_borrow ∙ sym c.end-pass-in-Nothing.ensures.same_borrow) ∙ c.end-pass-in-Nothing.ensures.still)) c.keep-last.ensures.rest
 
 pub returns-in-Nothing-clause-played_kept : goal.returns-in-Nothing-clause-played_kept
 returns-in-Nothing-clause-played_kept g c = subst (λ (q : Pass (PlayedAtomic g.row.T.Denot)). HasCalled (atomic_model g.T.AtomicInteger.arithmetic (key_of c.args.self.now.stage)) Call.FetchUpdate (Answer.ErrOld c.take-old.result.0) None (parties_of c.args.pass.now) (parties_of q)) (sym (c.pass-in-Nothing-1.given.1 (sym c.write_lock-locked.ensures.same_borrow ∙ sym c.take-old.ensures.same_borrow ∙ sym c.in-Nothing.ensures.same_borrow ∙ sym c.keep-last.ensures.same_borrow ∙ sym c.end-pass-in-Nothing.ensures.same_borrow) ∙ c.end-pass-in-Nothing.ensures.still)) (c.keep-last.ensures.played c.take-old.result.0 _ (subst (λ (p : Pass (PlayedAtomic g.row.T.Denot)). Knows g.T.AtomicInteger.arithmetic (key_of c.args.self.now.stage) Call.FetchUpdate c.take-old.result.0 (all_of (parties_of c.args.pass.now)) (parties_of p)) (sym c.in-Nothing.ensures.still) (c.take-old.ensures.knows _ c.write_lock-locked.ensures.next)))

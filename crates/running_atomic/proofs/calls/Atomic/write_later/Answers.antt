@@ -1,19 +1,10 @@
-use Rattle.running_atomic.proofs.Names.{refl, ◌∙◌}
+use Rattle.running_atomic.proofs.Names.{◌∙◌}
 use Rattle.running_atomic.proofs.AtomicPlays.{may_take_again, takes_again, misses_again}
-use Rattle.running_atomic.proofs.OverCalls.{as_it_was, not_writing, still_on, got_writing, got_later, rests_still}
+use Rattle.running_atomic.proofs.OverCalls.{not_writing, still_on}
 use Rattle.running_atomic.proofs.calls.Atomic.write_later.Goals as goal
-
-pub loop-init : goal.loop-init
-loop-init g c = record { same_borrow = refl; still = as_it_was c.args.turn.pass.now; at = λ done at. at }
-
-pub enter_write-found-requires-clause-free : goal.enter_write-found-requires-clause-free
-enter_write-found-requires-clause-free g c κs within = rests_still c.args.turn.pass.now c.loop.next.pass.now c.loop.invariant.still c.requires.rest
 
 pub enter_write-found-requires-clause-may : goal.enter_write-found-requires-clause-may
 enter_write-found-requires-clause-may g c κs within = may_take_again _ _ _ _ _ (c.loop.invariant.at c.requires.at.0 c.requires.at.1)
-
-pub returns-then-found-eq0-clause-on : goal.returns-then-found-eq0-clause-on
-returns-then-found-eq0-clause-on g c = got_later _ c.args.turn.pass.now c.loop.next.pass.now c.enter_write-found.result.1.pass.now c.loop.invariant.still (got_writing c.loop.next.pass.now c.enter_write-found.result.1.pass.now _ c.if-found-eq0.true c.enter_write-found.ensures.same c.enter_write-found.ensures.tried)
 
 pub returns-then-found-eq0-clause-next : goal.returns-then-found-eq0-clause-next
 returns-then-found-eq0-clause-next g c = λ done at. takes_again _ _ _ _ _ _ _ c.requires.writes c.if-found-eq0.true (c.loop.invariant.at done at) c.enter_write-found.ensures.went

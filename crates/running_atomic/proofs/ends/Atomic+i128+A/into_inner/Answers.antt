@@ -1,7 +1,5 @@
-use Rattle.running_atomic.specs.Names.{w128, i128_arithmetic}
-use Rattle.running_atomic.proofs.Names.{rules, ◌∙◌, to_z-of_z}
-use Rattle.running_atomic.specs.AtomicShown.{opening_of}
-use Rattle.running_atomic.proofs.AtEnd.{is_last, is_last_in_run}
+use Rattle.running_atomic.proofs.Names.{w128, i128_arithmetic, rules, ◌∙◌, to_z-of_z, opening_of}
+use Rattle.running_atomic.proofs.Runs.{is_last, is_last_in_run}
 use Rattle.running_atomic.proofs.ends.Atomic+i128+A.into_inner.Goals as goal
 
 pub returns-clause-last : goal.returns-clause-last

@@ -1,6 +1,5 @@
-use Rattle.running_atomic.specs.Names.{u128_arithmetic}
-use Rattle.running_atomic.specs.AtomicShown.{opening_of}
-use Rattle.running_atomic.proofs.AtEnd.{is_last, is_last_in_run}
+use Rattle.running_atomic.proofs.Names.{u128_arithmetic, opening_of}
+use Rattle.running_atomic.proofs.Runs.{is_last, is_last_in_run}
 use Rattle.running_atomic.proofs.ends.Atomic+u128+A.into_inner.Goals as goal
 
 pub returns-clause-last : goal.returns-clause-last

@@ -1,5 +1,4 @@
-use Rattle.running_guarded.specs.Names.{WaitAction, Call, MutexPlace, mutex_model, spun, IsStanding}
-use Rattle.running_guarded.proofs.Names.{refl, sym, subst, ap, ◌∙◌, MatchBool-at_true, MatchBool-at_false}
+use Rattle.running_guarded.proofs.Names.{WaitAction, Call, MutexPlace, mutex_model, spun, IsStanding, refl, sym, subst, ap, ◌∙◌, MatchBool-at_true, MatchBool-at_false}
 use Rattle.running_guarded.proofs.GuardedSights.{GoesOn, goes_on, ended, may_try, led_answered}
 use Rattle.running_guarded.proofs.guarded.Guarded.ask_and_try.Goals as goal
 

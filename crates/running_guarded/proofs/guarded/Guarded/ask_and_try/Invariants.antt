@@ -1,5 +1,4 @@
-use Rattle.running_guarded.specs.Names.{Call, MutexPlace, mutex_model, IsStanding, OnceStanding}
-use Rattle.running_guarded.proofs.Names.{◌≡◌, []}
+use Rattle.running_guarded.proofs.Names.{Call, MutexPlace, mutex_model, IsStanding, OnceStanding, ◌≡◌, []}
 use Rattle.running_guarded.proofs.GuardedSights.{GoesOn}
 use Rattle.running_guarded.proofs.guarded.Guarded.ask_and_try.Given as goal
 

@@ -1,6 +1,4 @@
-use Rattle.running_guarded.specs.Names.{Call, Answer, HoldKind, mutex_model, all_of, HasMutex}
-use Rattle.running_guarded.proofs.Names.{MatchBool, Some, None, refl, sym, subst, MatchBool-at_true, MatchBool-at_false, is_over, either_is_over, granted_has}
-use Rattle.running_guarded.specs.GuardedSteps.{Plays}
+use Rattle.running_guarded.proofs.Names.{Call, Answer, HoldKind, mutex_model, all_of, MatchBool, Some, None, sym, subst, MatchBool-at_true, MatchBool-at_false, is_over, either_is_over, granted_has, Plays}
 use Rattle.running_guarded.proofs.GuardedSights.{may_begin, led_first}
 use Rattle.running_guarded.proofs.guarded.Guarded.enter.Goals as goal
 

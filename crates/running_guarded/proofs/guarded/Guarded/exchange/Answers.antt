@@ -1,5 +1,4 @@
-use Rattle.running_guarded.specs.Names.{mutex_model, seen_instead}
-use Rattle.running_guarded.proofs.Names.{zero_or_not, tried, tried_alone, exchanges, mutex_is_for_one, carries_none, value_tried}
+use Rattle.running_guarded.proofs.Names.{mutex_model, seen_instead, zero_or_not, tried, tried_alone, exchanges, mutex_is_for_one, carries_none, value_tried}
 use Rattle.running_guarded.proofs.guarded.Guarded.exchange.Goals as goal
 
 pub exchange-found-requires-clause-needs : goal.exchange-found-requires-clause-needs

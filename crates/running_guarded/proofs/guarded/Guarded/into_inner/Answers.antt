@@ -1,6 +1,4 @@
-use Rattle.running_guarded.specs.Names.{IsWhole, mutex_model}
-use Rattle.running_guarded.proofs.Names.{sym, subst, ◌∙◌, ap, closes, is_there}
-use Rattle.running_guarded.specs.GuardedRule.{MutexView}
+use Rattle.running_guarded.proofs.Names.{IsWhole, mutex_model, sym, subst, ◌∙◌, ap, closes, is_there, MutexView}
 use Rattle.running_guarded.proofs.guarded.Guarded.into_inner.Goals as goal
 
 pub unwrap-requires : goal.unwrap-requires

@@ -1,6 +1,4 @@
-use Rattle.running_guarded.proofs.Names.{refl, sym, subst, ◌∙◌, is_to_wake, may_unlock, unlocks, unlock_is_over}
-use Rattle.running_guarded.specs.Names.{Lets}
-use Rattle.running_guarded.specs.GuardedSteps.{PlaysUnlock}
+use Rattle.running_guarded.proofs.Names.{refl, sym, subst, ◌∙◌, is_to_wake, may_unlock, unlocks, unlock_is_over, Lets, PlaysUnlock}
 use Rattle.running_guarded.proofs.guarded.Guarded.leave.Goals as goal
 
 pub release-turn-requires-clause-may : goal.release-turn-requires-clause-may

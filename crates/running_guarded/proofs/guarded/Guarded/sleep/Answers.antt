@@ -1,5 +1,4 @@
-use Rattle.running_guarded.specs.Names.{Answer}
-use Rattle.running_guarded.proofs.Names.{refl}
+use Rattle.running_guarded.proofs.Names.{Answer, refl}
 use Rattle.running_guarded.proofs.guarded.Guarded.sleep.Goals as goal
 
 -- what may answer Abort through the closure that passes on may answer it

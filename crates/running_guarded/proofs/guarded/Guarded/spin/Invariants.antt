@@ -1,6 +1,4 @@
-use Rattle.running_guarded.specs.Names.{Call, MutexPlace, mutex_model, spun, IsRefused, OnceRefused}
-use Rattle.running_guarded.proofs.Names.{◌≡◌, []}
-use Rattle.running_guarded.specs.GuardedSteps.{SeesLockedOften}
+use Rattle.running_guarded.proofs.Names.{Call, MutexPlace, mutex_model, spun, IsRefused, OnceRefused, ◌≡◌, [], SeesLockedOften}
 use Rattle.running_guarded.proofs.guarded.Guarded.spin.Given as goal
 
 abbrev pub invariant-loop : goal.invariant-loop

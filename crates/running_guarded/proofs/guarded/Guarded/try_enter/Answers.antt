@@ -1,6 +1,4 @@
-use Rattle.running_guarded.specs.Names.{Call, Answer, HoldKind, mutex_model, HasMutex}
-use Rattle.running_guarded.proofs.Names.{MatchBool, Some, None, refl, sym, subst, MatchBool-at_true, either_is_over, may_try_lock, try_ends, granted_has}
-use Rattle.running_guarded.specs.GuardedSteps.{Plays}
+use Rattle.running_guarded.proofs.Names.{Call, Answer, HoldKind, mutex_model, MatchBool, Some, None, refl, sym, subst, MatchBool-at_true, either_is_over, may_try_lock, try_ends, granted_has, Plays}
 use Rattle.running_guarded.proofs.guarded.Guarded.try_enter.Goals as goal
 
 pub first-free-requires-clause-may : goal.first-free-requires-clause-may

@@ -1,5 +1,4 @@
-use Rattle.std.proofs.Common.{◌∙◌, suc, arith}
-use Rattle.running_mutex.proofs.Often.{waits_again, waits_no_more}
+use Rattle.running_guarded.proofs.Names.{◌∙◌, suc, arith, waits_again, waits_no_more}
 use Rattle.running_guarded.proofs.Looks.{locks_again}
 use Rattle.running_guarded.proofs.guarded.Guarded.when.Goals as goal
 

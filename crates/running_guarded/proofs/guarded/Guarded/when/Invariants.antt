@@ -1,8 +1,5 @@
-use Rattle.std.specs.Prelude.{ℕ, None}
+use Rattle.running_guarded.proofs.Names.{ℕ, None, Often, HasWaitedOften, HasStayed, HasLockedOften, HasAnswered}
 use Rattle.running_mutex.specs.CondShown.{HasStayed as HasWaitedAtMost}
-use Rattle.running_mutex.specs.Often.{Often, HasWaitedOften}
-use Rattle.running_guarded.specs.GuardedShown.{HasStayed, HasLockedOften}
-use Rattle.running_guarded.specs.Acting.{HasAnswered}
 use Rattle.running_guarded.proofs.guarded.Guarded.when.Given as goal
 
 abbrev pub invariant-loop : goal.invariant-loop

@@ -1,7 +1,4 @@
-use Rattle.running_guarded.specs.Names.{IsAgain, both_held}
-use Rattle.running_guarded.proofs.Names.{rules, sym, ap, ◌∙◌, subst, parts_again, joins_weight, joins, held_add_up}
-use Rattle.running_passes.specs.Views.{joined_view}
-use Rattle.running_guarded.specs.GuardedRule.{MutexView}
+use Rattle.running_guarded.proofs.Names.{IsAgain, both_held, rules, sym, ap, ◌∙◌, subst, parts_again, joins_weight, joins, held_add_up, joined_view, MutexView}
 use Rattle.running_guarded.proofs.pass.GuardedPass.join.Goals as goal
 
 pub join_seat-requires : goal.join_seat-requires

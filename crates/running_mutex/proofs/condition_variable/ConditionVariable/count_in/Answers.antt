@@ -1,8 +1,4 @@
-use Rattle.running_mutex.specs.Names.{all_of, parties_of}
-use Rattle.running_mutex.proofs.Names.{subst}
-use Rattle.running_model.specs.Counts.{HasDone}
-use Rattle.running_mutex.specs.CondRule.{went_in}
-use Rattle.running_mutex.specs.CondParties.{IsInside}
+use Rattle.running_mutex.proofs.Names.{all_of, parties_of, subst, HasDone, went_in, IsInside}
 use Rattle.running_mutex.proofs.CondKeeps.{counts_in}
 use Rattle.running_mutex.proofs.CondPlays.{may_count_in, goes_in}
 use Rattle.running_mutex.proofs.condition_variable.ConditionVariable.count_in.Goals as goal

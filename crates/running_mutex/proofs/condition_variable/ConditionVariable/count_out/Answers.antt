@@ -1,8 +1,4 @@
-use Rattle.running_mutex.specs.Names.{parties_of}
-use Rattle.running_mutex.proofs.Names.{sym, subst}
-use Rattle.running_model.specs.Counts.{HasDone}
-use Rattle.running_mutex.specs.CondRule.{went_out}
-use Rattle.running_mutex.specs.CondParties.{IsOut}
+use Rattle.running_mutex.proofs.Names.{parties_of, sym, subst, HasDone, went_out, IsOut}
 use Rattle.running_mutex.proofs.CondKeeps.{counts_out}
 use Rattle.running_mutex.proofs.CondPlays.{may_count_out, goes_out, wait_is_over}
 use Rattle.running_mutex.proofs.condition_variable.ConditionVariable.count_out.Goals as goal

@@ -1,5 +1,4 @@
-use Rattle.running_mutex.specs.Names.{min}
-use Rattle.running_mutex.proofs.Names.{refl, ◌∙◌, ap}
+use Rattle.running_mutex.proofs.Names.{min, refl, ◌∙◌, ap}
 use Rattle.running_mutex.proofs.CondCalls.{notifies, gives_none}
 use Rattle.running_mutex.proofs.condition_variable.ConditionVariable.notify_one.Goals as goal
 

@@ -1,5 +1,4 @@
-use Rattle.running_mutex.proofs.Names.{refl, sym, ◌∙◌, true≢false}
-use Rattle.running_mutex.specs.MutexShown.{pass_of}
+use Rattle.running_mutex.proofs.Names.{refl, sym, ◌∙◌, true≢false, pass_of}
 use Rattle.running_mutex.proofs.MutexTries.{alone_again}
 use Rattle.running_mutex.proofs.CondCalls.{slept_well, slept_in_vain, took_or_not, took_some, took_none, regains, leaves}
 use Rattle.running_mutex.proofs.condition_variable.ConditionVariable.wait_held.Goals as goal

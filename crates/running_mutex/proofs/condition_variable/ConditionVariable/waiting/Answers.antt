@@ -1,8 +1,4 @@
-use Rattle.running_mutex.specs.Names.{IsWhole, part_of, Call, Answer, parties_of, counts_of}
-use Rattle.running_mutex.proofs.Names.{◌≡◌, sym, subst, ◌∙◌}
-use Rattle.running_model.specs.Counts.{HasSeen}
-use Rattle.running_mutex.specs.CondRule.{WaitsPass}
-use Rattle.running_mutex.specs.CondParties.{Plays}
+use Rattle.running_mutex.proofs.Names.{IsWhole, part_of, Call, Answer, parties_of, counts_of, ◌≡◌, sym, subst, ◌∙◌, HasSeen, WaitsPass, Plays}
 use Rattle.running_mutex.proofs.CondKeeps.{loads, none_there}
 use Rattle.running_mutex.proofs.CondPlays.{may_look, tells, look_is_over}
 use Rattle.running_mutex.proofs.condition_variable.ConditionVariable.waiting.Goals as goal

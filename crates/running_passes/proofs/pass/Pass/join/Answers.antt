@@ -1,5 +1,4 @@
-use Rattle.std.proofs.Common.{sym, ap, subst}
-use Rattle.running_passes.specs.Parts.{IsAgain, AddUp}
+use Rattle.running_passes.proofs.Names.{sym, ap, subst, IsAgain, AddUp}
 use Rattle.running_passes.proofs.Parts.{parts_again, joins_weight}
 use Rattle.running_passes.proofs.Steps.{joins}
 use Rattle.running_passes.proofs.pass.Pass.join.Goals as goal

@@ -1,6 +1,4 @@
-use Rattle.std.proofs.Common.{sym, ap, subst}
-use Rattle.running_passes.specs.declared.part.Part.{Part}
-use Rattle.running_passes.specs.Parts.{AddUp}
+use Rattle.running_passes.proofs.Names.{sym, ap, subst, Part, AddUp}
 use Rattle.running_passes.proofs.Parts.{splits_weight}
 use Rattle.running_passes.proofs.Steps.{splits}
 use Rattle.running_passes.proofs.pass.Pass.split.Goals as goal

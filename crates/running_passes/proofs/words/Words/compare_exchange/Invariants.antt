@@ -1,4 +1,4 @@
-use Rattle.running_passes.specs.Passes.{Told}
+use Rattle.running_passes.proofs.Names.{Told}
 use Rattle.running_passes.proofs.words.Words.compare_exchange.Given as goal
 
 abbrev pub ghosts-compare_exchange : goal.ghosts-compare_exchange

@@ -1,4 +1,4 @@
-use Rattle.running_passes.specs.Passes.{Told}
+use Rattle.running_passes.proofs.Names.{Told}
 use Rattle.running_passes.proofs.words.Words.fetch_sub.Given as goal
 
 abbrev pub ghosts-fetch_sub : goal.ghosts-fetch_sub

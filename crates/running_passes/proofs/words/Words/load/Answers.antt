@@ -1,4 +1,4 @@
-use Rattle.std.proofs.Common.{rules}
+use Rattle.running_passes.proofs.Names.{rules}
 use Rattle.running_passes.proofs.Steps.{steps}
 use Rattle.running_passes.proofs.words.Words.load.Goals as goal
 

@@ -1,4 +1,4 @@
-use Rattle.std.proofs.Common.{rules}
+use Rattle.running_passes.proofs.Names.{rules}
 use Rattle.running_passes.proofs.words.Words.new.Goals as goal
 
 pub of_words-requires : goal.of_words-requires

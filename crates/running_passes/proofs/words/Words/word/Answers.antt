@@ -1,4 +1,4 @@
-use Rattle.std.proofs.Common.{rules}
+use Rattle.running_passes.proofs.Names.{rules}
 use Rattle.running_passes.proofs.words.Words.word.Goals as goal
 
 pub returns : goal.returns

@@ -1,5 +1,4 @@
-use Rattle.std.proofs.Common.{◌≡◌, ◌∙◌, arith}
-use Rattle.running_model.proofs.Attempts.{seen_once, seen_twice, still_so}
+use Rattle.running_rw_hold.proofs.Names.{◌≡◌, ◌∙◌, arith, seen_once, seen_twice, still_so}
 use Rattle.running_rw_hold.proofs.RwTries.{one_more}
 use Rattle.running_rw_hold.proofs.reading.ReaderAttemptUnitU64.attempt.Goals as goal
 

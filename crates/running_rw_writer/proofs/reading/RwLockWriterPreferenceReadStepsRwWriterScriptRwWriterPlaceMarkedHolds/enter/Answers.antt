@@ -1,5 +1,4 @@
-use Rattle.running_rw_writer.proofs.RwWriterKeeps.{made_read, exchanges, enters, exchanges_alone}
-use Rattle.running_rw_writer.proofs.RwWriterPlays.{may_read, read_once, read_goes}
+use Rattle.running_rw_writer.proofs.AnswerNames.{made_read, exchanges, enters, exchanges_alone, may_read, read_once, read_goes}
 use Rattle.running_rw_writer.proofs.reading.RwLockWriterPreferenceReadStepsRwWriterScriptRwWriterPlaceMarkedHolds.enter.Goals as goal
 
 pub exchange-requires-clause-may : goal.exchange-requires-clause-may

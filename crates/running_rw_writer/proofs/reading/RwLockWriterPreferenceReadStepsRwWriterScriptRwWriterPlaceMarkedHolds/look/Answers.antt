@@ -1,6 +1,4 @@
-use Rattle.running_rw_writer.specs.Names.{None, Call, RwWriterPlace}
-use Rattle.running_rw_writer.proofs.RwWriterKeeps.{looks, looks_alone}
-use Rattle.running_rw_writer.proofs.RwWriterPlays.{may_look_to_read}
+use Rattle.running_rw_writer.proofs.AnswerNames.{None, Call, RwWriterPlace, looks, looks_alone, may_look_to_read}
 use Rattle.running_rw_writer.proofs.reading.RwLockWriterPreferenceReadStepsRwWriterScriptRwWriterPlaceMarkedHolds.look.Goals as goal
 
 pub load-requires-clause-may : goal.load-requires-clause-may

@@ -1,7 +1,4 @@
-use Rattle.running_spin_lock.specs.Names.{IsAgain, joined_view}
-use Rattle.running_spin_lock.proofs.Names.{rules, sym, ap, ◌∙◌, subst, parts_again, joins_weight, joins}
-use Rattle.running_spin_lock.specs.ValueRule.{both_held}
-use Rattle.running_spin_lock.specs.SpinRule.{SpinView}
+use Rattle.running_spin_lock.proofs.Names.{IsAgain, joined_view, rules, sym, ap, ◌∙◌, subst, parts_again, joins_weight, joins, both_held, SpinView}
 use Rattle.running_spin_lock.proofs.ValueKeeps.{held_add_up}
 use Rattle.running_spin_lock.proofs.pass.SpinPass.join.Goals as goal
 

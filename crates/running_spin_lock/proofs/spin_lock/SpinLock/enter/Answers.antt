@@ -1,12 +1,6 @@
-use Rattle.running_spin_lock.specs.Names.{Answer, HoldKind, all_of}
-use Rattle.running_spin_lock.proofs.Names.{Some, sym, subst, MatchBool-at_true, MatchBool-at_false, is_over}
-use Rattle.running_spin_lock.specs.SpinLawful.{spin_model}
-use Rattle.running_spin_lock.specs.SpinSteps.{HasPlayed}
-use Rattle.running_spin_lock.proofs.SpinPlays.{may_begin, first_goes, granted_has}
+use Rattle.running_spin_lock.proofs.Names.{Answer, HoldKind, all_of, Some, sym, subst, MatchBool-at_true, MatchBool-at_false, is_over, spin_model, HasPlayed}
+use Rattle.running_spin_lock.proofs.SpinPlays.{first_goes, granted_has}
 use Rattle.running_spin_lock.proofs.spin_lock.SpinLock.enter.Goals as goal
-
-pub first-free-requires-clause-may : goal.first-free-requires-clause-may
-first-free-requires-clause-may g c = may_begin g.C.Called.call _ g.met.C.Waiting.waits
 
 pub end-requires : goal.end-requires
 end-requires g c = record { over = is_over spin_model g.C.Called.call _ _ _ _ (MatchBool-at_true _ _ c.if-free.true (first_goes _ g.C.Called.call _ _ g.met.C.Waiting.waits c.first-free.ensures.tried)) }

@@ -1,6 +1,4 @@
-use Rattle.running_spin_lock.proofs.Names.{sym, subst}
-use Rattle.running_spin_lock.specs.ValueSteps.{Lets}
-use Rattle.running_spin_lock.specs.SpinSteps.{HasPlayedUnlock}
+use Rattle.running_spin_lock.proofs.Names.{sym, subst, HasPlayedUnlock}
 use Rattle.running_spin_lock.proofs.SpinPlays.{may_unlock, unlocks, unlock_is_over}
 use Rattle.running_spin_lock.proofs.spin_lock.SpinLock.leave.Goals as goal
 
@@ -9,9 +7,6 @@ release-turn-requires-clause-may g c = may_unlock _ c.requires.has
 
 pub end-requires : goal.end-requires
 end-requires g c = record { over = unlock_is_over _ _ c.requires.has (unlocks _ _ c.release-turn.ensures.went) }
-
-pub returns-clause-off : goal.returns-clause-off
-returns-clause-off g c = subst (λ s. Lets c.args.seat.me.0 s.me.0) (sym c.end.ensures.still) c.release-turn.ensures.off
 
 pub returns-clause-played : goal.returns-clause-played
 returns-clause-played g c = subst (λ s. HasPlayedUnlock c.args.seat.me.0 s.me.0) (sym c.end.ensures.still) (unlocks _ _ c.release-turn.ensures.went)

@@ -1,7 +1,4 @@
-use Rattle.running_spin_lock.specs.Names.{Slot}
-use Rattle.running_spin_lock.proofs.Names.{◌≡◌, ℕ, [], List}
-use Rattle.running_spin_lock.specs.ValueSteps.{OnlySees}
-use Rattle.running_spin_lock.specs.SpinParties.{IsSpinning}
+use Rattle.running_spin_lock.proofs.Names.{Slot, ◌≡◌, ℕ, [], List, OnlySees, IsSpinning}
 use Rattle.running_spin_lock.proofs.spin_lock.SpinLock.spin.Given as goal
 
 abbrev pub invariant-loop : goal.invariant-loop

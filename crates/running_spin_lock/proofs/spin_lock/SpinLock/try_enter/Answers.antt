@@ -1,12 +1,6 @@
-use Rattle.running_spin_lock.specs.Names.{Call, Answer, HoldKind, all_of}
-use Rattle.running_spin_lock.proofs.Names.{MatchBool, Some, None, sym, subst, MatchBool-at_true, either_is_over}
-use Rattle.running_spin_lock.specs.SpinLawful.{spin_model}
-use Rattle.running_spin_lock.specs.SpinSteps.{HasPlayed}
-use Rattle.running_spin_lock.proofs.SpinPlays.{may_try_lock, try_ends, granted_has}
+use Rattle.running_spin_lock.proofs.Names.{Call, Answer, HoldKind, all_of, MatchBool, Some, None, sym, subst, MatchBool-at_true, either_is_over, spin_model, HasPlayed}
+use Rattle.running_spin_lock.proofs.SpinPlays.{try_ends, granted_has}
 use Rattle.running_spin_lock.proofs.spin_lock.SpinLock.try_enter.Goals as goal
-
-pub first-free-requires-clause-may : goal.first-free-requires-clause-may
-first-free-requires-clause-may g c = may_try_lock _
 
 pub end-requires : goal.end-requires
 end-requires g c = let t = c.first-free.ensures.tried in record { over = either_is_over spin_model c.first-free.result.0 Call.TryLock _ _ _ (try_ends _ t.0 _ _ t.1 t.2) }
