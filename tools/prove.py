@@ -135,7 +135,7 @@ class Shelf:
 
     def lacks(self, tasks):
         """Why the disk has no room for what these tasks will prove, or nothing."""
-        new = [it.crate for it in tasks.values() if it.kind == "proofs" and stamp_of(f"{self.folder}/{it.crate.name}") is None]
+        new = [it.crate for it in tasks.values() if it.kind == "proofs" and not it.crate.is_program and not stamp_of(f"{self.folder}/{it.crate.name}")]
         wanted = sum(it.lines for it in new) * WRITTEN + SPARE * bool(new)
         return f"the disk is full: {self.free() / 1e9:.1f} GB are free at {self.folder}, and {wanted / 1e9:.1f} are wanted" if self.free() < wanted else ""
 
