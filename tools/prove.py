@@ -42,6 +42,9 @@ REFUSED = re.compile(
     re.M,
 )
 RESULT = re.compile(r"^test result: \w+\. (\d+) passed; (\d+) failed", re.M)
+# The bytes that a proof writes for a line of its library, and those that have to be free besides: 52,100 lines took 14.3 GB.
+WRITTEN, SPARE = 275_000, 3_000_000_000
+FULL = "No space left on device"
 # What each program reads, and what it writes of that.
 EXAMPLES = {
     "sync_play_main": ("examples/{}.txt", "examples/{}.out"),
@@ -127,6 +130,20 @@ class Shelf:
             if name == crate.name and not os.path.isdir(f"{own}/incremental"):
                 link(f"{kept}/incremental", f"{own}/incremental")
 
+    def free(self):
+        return shutil.disk_usage(self.folder).free
+
+    def lacks(self, tasks):
+        """Why the disk has no room for what these tasks will prove, or nothing."""
+        new = [it.crate for it in tasks.values() if it.kind == "proofs" and not it.crate.is_program and not stamp_of(f"{self.folder}/{it.crate.name}")]
+        wanted = sum(it.lines for it in new) * WRITTEN + SPARE * bool(new)
+        return f"the disk is full: {self.free() / 1e9:.1f} GB are free at {self.folder}, and {wanted / 1e9:.1f} are wanted" if self.free() < wanted else ""
+
+    def thin(self, lanes, names):
+        """Takes away what was found of each function of these crates, of which nothing is left to do; others stand on the libraries alone."""
+        for it in [*(it.made_of(name) for it in lanes for name in names), *(f"{self.folder}/{name}" for name in names)]:
+            shutil.rmtree(f"{it}/incremental", ignore_errors=True)
+
 
 def keep_alone(folder, names):
     """Takes away what lies in a folder under other names than these."""
@@ -202,6 +219,8 @@ class Lane:
             )
         said, complained = self.child.communicate()
         status, self.child = self.child.returncode, None
+        if FULL in f"{said}{complained}":
+            raise OSError(FULL)
         return (status, said, complained) if apart else (status, said)
 
     def stop(self):
@@ -419,8 +438,14 @@ def run_all(tasks, lanes, progress):
         began = time.time()
         if any(given[it][0].failed for it in task.after if it[0] == "proofs"):
             return Told(0, 1, "not tried, since what it stands on is not proved"), 0
-        lane.shelf.give(lane, task.crate)
-        return task.call(lane, task.crate, jobs), time.time() - began
+        try:
+            lane.shelf.give(lane, task.crate)
+            told = task.call(lane, task.crate, jobs)
+        except OSError as why:
+            if FULL not in str(why):
+                raise
+            told = Told(0, 1, f"the disk is full: {lane.shelf.free() / 1e9:.1f} GB are free")
+        return told, time.time() - began
 
     with concurrent.futures.ThreadPoolExecutor(len(lanes)) as pool:
         while left or running:
@@ -435,6 +460,8 @@ def run_all(tasks, lanes, progress):
                 given[task.key] = it.result()
                 free.append(lane)
                 progress.end(task, *given[task.key])
+            if lanes[0].shelf.free() < SPARE:
+                lanes[0].shelf.thin(lanes, {it.crate.name for it in tasks.values()} - {it.crate.name for it in [*left.values(), *(task for task, _ in running.values())]})
     return given
 
 
@@ -509,6 +536,8 @@ def main(words):
         print("waiting for another call in this checkout to end", flush=True)
         fcntl.flock(held, fcntl.LOCK_EX)
     shelf = Shelf(f"{at}/proved", crates)
+    if lacks := shelf.lacks(tasks):
+        sys.exit(lacks)
     lanes = [Lane(top, f"{at}/{number}", shelf) for number in range(max(1, min(asked.lanes, len(tasks))))]
     try:
         given = run_all(tasks, lanes, Progress(tasks))

@@ -1,7 +1,7 @@
 # The tool that proves and tries edits, on a crate of three functions and one test: what is no bug, what cannot be read, and what is refused for a name
 # alone, fails it and says so, beside wrong bodies in the same check; so do a test that fails and a crate that is not proved. Of three edits on which a
 # search gave up, over a checker that only pretends, two fail: one has no control, and that of the other is refused like it. What was proved is kept
-# from call to call, and does not serve another text.
+# from call to call, and does not serve another text. Where less of the disk is free than is wanted, nothing begins.
 test_batches() {
     local top=$room/batches crate=$room/batches/crates/sizes
     mkdir -p -- "$top/tools" "$crate/src" "$crate/proofs/no" "$crate/must-fail"
@@ -94,6 +94,22 @@ PY
         succeed
     else
         fail "an edit at a limit" "it said: $(<"$room/out") $(tail -n 3 -- "$room/err")"
+    fi
+    attempt python3 - "$top" <<'PY'
+import collections
+import shutil
+import sys
+
+sys.path.insert(0, f"{sys.argv[1]}/tools")
+import prove
+
+shutil.disk_usage = lambda folder: collections.namedtuple("Room", "free")(2_000_000_000)
+sys.exit(prove.main(["proofs"]))
+PY
+    if [[ $status == 1 && $(<"$room/err") == "the disk is full: 2.0 GB are free at "*", and 3.0 are wanted" ]]; then
+        succeed
+    else
+        fail "a full disk" "it said: $(<"$room/out") $(tail -n 3 -- "$room/err")"
     fi
     sed -i -- 's/same(3) == 3/same(3) == 4/' "$crate/src/lib.rt"
     tries "a test that fails, unproved" tries "0 passed, 1 failed" each_answers

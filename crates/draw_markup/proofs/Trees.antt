@@ -1,17 +1,11 @@
 -- Text, openings and markup stay what they are when more is written.
-use Rattle.std.proofs.Common.{◌≡◌, ◌+◌, ◌<◌, ◌≤◌, ℕ, Bool, true, false, if◌then◌else◌, List, [], ◌∷◌, ◌++◌, length, take, get_or, refl, sym, ap, subst, ◌∙◌, append_assoc, arith}
+use Rattle.draw_markup.proofs.Names.{◌≡◌, ◌+◌, ◌<◌, ◌≤◌, ℕ, Bool, true, false, if◌then◌else◌, List, [], ◌∷◌, ◌++◌, length, take, get_or, refl, sym, ap, subst, ◌∙◌, append_assoc, arith, append-nil, take_all, take_more, map-append, encode_ascii, codes, flat_map, titles_of, shown, tag_words, key_words, Attribute, Tree, Nothing, Character, Element, Group, attribute_bytes, opening_bytes, closing_bytes, written, group_titles, IsWords, IsOpening, IsMarkup, IsElement}
 use Rattle.std.proofs.Math.Logic.{∥∥₁_map, ∥∥₁_map₂}
-use Rattle.std.proofs.lemmas.List.{append-nil, take_all, take_more, map-append}
 use Rattle.std.proofs.lemmas.List.Concat.{flat_map-append}
-use Rattle.std.proofs.lemmas.Str.{encode_ascii}
-use Rattle.std.specs.Prelude.{codes}
-use Rattle.std.specs.List.{flat_map}
 use Rattle.std.specs.Str.{chars, encode_utf8_all}
 use Rattle.draw_markup.specs.declared.group.Group.{Group as Gr}
 use Rattle.draw_markup.specs.declared.name.Tag.{Tag}
 use Rattle.draw_markup.specs.declared.name.Key.{Key}
-use Rattle.draw_markup.specs.Group.{titles_of}
-use Rattle.draw_markup.specs.Tree.{shown, tag_words, key_words, Attribute, Tree, Nothing, Character, Element, Group, attribute_bytes, opening_bytes, closing_bytes, written, group_titles, IsWords, IsOpening, IsMarkup, IsElement}
 
 -- Text.
 

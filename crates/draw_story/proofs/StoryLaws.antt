@@ -1,6 +1,5 @@
 -- A story has the first rows of a text's trace, and the last line of its output.
-use Rattle.std.proofs.Common.{◌≡◌, ℕ, zero, suc, ◌+◌, ◌-◌, ◌<◌, ◌≤◌, min, Result, List, [], ◌∷◌, ◌++◌, length, get_or, map, take, Option, Some, None, Ok, Err, refl, sym, ap, subst, ◌∙◌, arith}
-use Rattle.std.proofs.lemmas.List.{take_more, map-append, length-take, length-take-le, length-append}
+use Rattle.draw_story.proofs.Names.{◌≡◌, ℕ, zero, suc, ◌+◌, ◌-◌, ◌<◌, ◌≤◌, min, Result, List, [], ◌∷◌, ◌++◌, length, get_or, map, take, Option, Some, None, Ok, Err, refl, sym, ap, subst, ◌∙◌, arith, take_more, map-append, length-take, length-take-le, length-append, lines_of, text_walk, Row, Entry, entry_of, entries, trimmed, Shown, shown_of, shown_at, kept, number_at_end, left_out, HasOutput}
 use Rattle.std.proofs.lemmas.Simd.{map-map}
 use Rattle.std.specs.List.{take-map}
 use Rattle.std.specs.Prelude.{string_bytes}
@@ -8,7 +7,6 @@ use Rattle.model_events.specs.Exports.{Arithmetic, after}
 use Rattle.model_events.specs.declared.{event.Event.Event, event.Object.Object}
 use Rattle.sync_steps.specs.Machine.{Configuration, StandsAt}
 use Rattle.text_lines.specs.declared.header.Header.{Header}
-use Rattle.text_lines.specs.Lexer.{lines_of}
 use Rattle.text_lines.specs.Numerals.{Numerals}
 use Rattle.sync_play.specs.Print.{printed, last_line}
 use Rattle.sync_play.specs.Text.{typed_output}
@@ -16,13 +14,9 @@ use Rattle.text_lines.specs.declared.fault.FaultyLine.{FaultyLine}
 use Rattle.sync_play.specs.declared.walk.Rest.{Rest}
 use Rattle.sync_play.specs.WalkOutput.{events_in, output_unless}
 use Rattle.sync_play.specs.Walk.{nothing, opened, rest_walk}
-use Rattle.sync_play.proofs.PlayLaws.{text_walk}
-use Rattle.text_trace.specs.declared.rows.Row.{Row}
-use Rattle.text_trace.specs.Rows.{Entry, entry_of, entries, trimmed}
 use Rattle.text_trace.specs.Trace.{HasAdded, HasPlayed, rows_with, rows_of}
 use Rattle.text_trace.proofs.TraceLaws.{rows_opened}
 use Rattle.draw_story.specs.declared.story.StoryStep.{StoryStep}
-use Rattle.draw_story.specs.Story.{Shown, shown_of, shown_at, kept, number_at_end, left_out, HasOutput}
 use Rattle.draw_story.specs.Title.{title_words}
 
 -- one more of what is made of a list

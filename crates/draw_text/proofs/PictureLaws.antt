@@ -1,10 +1,8 @@
 -- A picture of a text is one of its lines, with values of its type.
-use Rattle.std.proofs.Common.{◌≡◌, ℕ, List, Result, IfOk, Vec, Global, subst}
+use Rattle.draw_text.proofs.Names.{◌≡◌, ℕ, List, Result, IfOk, Vec, Global, subst, ValueType, IsTypedPicture, IsPictureOf}
 use Rattle.text_lines.specs.declared.fault.TextFault.{TextFault}
-use Rattle.text_lines.specs.declared.value_type.ValueType.{ValueType}
 use Rattle.text_lines.specs.Lexer.{lines_of}
 use Rattle.text_lines.specs.ValueTypes.{type_of_lines, meaning_of}
-use Rattle.draw_text.specs.Picture.{IsTypedPicture, IsPictureOf}
 
 pub drawn_at : (t : ValueType) (text : List ℕ) (r : Result (Vec ℕ Global) TextFault) → t ≡ type_of_lines (lines_of text)
     → IfOk r (λ bytes. IsTypedPicture (meaning_of t).arithmetic (meaning_of t).numerals (lines_of text) bytes.items) → IfOk r (λ bytes. IsPictureOf text bytes.items)

@@ -1,19 +1,13 @@
 -- What is left of a mutex's pass that locks it, waits, and lets it go.
-use Rattle.std.proofs.Common.{◌≡◌, ℕ, suc, ◌∙◌, sym, ap, subst, arith, Some}
+use Rattle.job_queue.proofs.Names.{◌≡◌, ℕ, suc, ◌∙◌, sym, ap, subst, arith, Some, Answer, parties_of, MutexPass, HasEntered, HasStayed, HasUnlocked, HasPlayedAgain, Often, LocksAndUnlocks, HoldsAfter}
 use Rattle.model_events.specs.declared.event.Call.{Call}
-use Rattle.model_events.specs.declared.event.Answer.{Answer}
 use Rattle.model_events.specs.declared.hold.HoldKind.{HoldKind}
 use Rattle.running_passes.specs.declared.view.View.{View}
 use Rattle.running_model.specs.Plays.{HasCalled}
 use Rattle.running_model.specs.Slots.{Parties}
-use Rattle.running_model.specs.Passes.{parties_of}
 use Rattle.running_mutex.specs.MutexParties.{Unlocks}
 use Rattle.running_tallies.specs.MutexScript.{mutex_model}
 use Rattle.running_tallies.specs.declared.mutex.Holds.{Holds}
-use Rattle.running_mutex.specs.MutexShown.{MutexPass, HasEntered, HasStayed, HasUnlocked}
-use Rattle.running_mutex.specs.CondShown.{HasPlayedAgain}
-use Rattle.running_mutex.specs.Often.{Often}
-use Rattle.job_queue.specs.Locked.{LocksAndUnlocks, HoldsAfter}
 
 pub stays : (p q r s u : MutexPass) → HasEntered p q → HasStayed q r → HasStayed r s → HasUnlocked s u → HasStayed p u
 stays p q r s u entered first second unlocked =

@@ -1,9 +1,5 @@
 -- The acts of a run: what they leave in the register, and which act the step at a place is.
-use Rattle.model_atomic.specs.Names.{MatchOption, Word, Call, Act, Answer, Event, Then, Arithmetic, IsValue, IsClosed, PendingCall, call_of, word_in, latest_outcome, go_fault, stage_of, IsPast}
-use Rattle.model_atomic.proofs.Names.{arith, nat_tests, eqb-true, eqb-false, ◌≡◌, ℕ, refl, sym, ◌∙◌, ap, subst, true, cond, List, [], ◌∷◌, ◌++◌, Option, Some, None, ◌⊎◌, fault_at_none, by_move}
-use Rattle.model_atomic.specs.declared.AtomicPlace.{AtomicPlace}
-use Rattle.model_atomic.specs.Register.{RegisterAct, plain, update, value_after, after_acts, choice_of, choice_for, low_told, ends_at_look, acted, act_by, acts_at, acts_of_run, register_after, is_data_access}
-use Rattle.model_atomic.specs.Table.{atomic_table}
+use Rattle.model_atomic.proofs.Names.{arith, nat_tests, eqb-true, eqb-false, ◌≡◌, ℕ, refl, sym, ◌∙◌, ap, subst, true, cond, List, [], ◌∷◌, ◌++◌, Option, Some, None, ◌⊎◌, fault_at_none, by_move, MatchOption, Word, Call, Act, Answer, Event, Then, Arithmetic, IsValue, IsClosed, PendingCall, call_of, word_in, latest_outcome, go_fault, stage_of, IsPast, AtomicPlace, RegisterAct, plain, update, value_after, after_acts, choice_of, choice_for, low_told, ends_at_look, acted, act_by, acts_at, acts_of_run, register_after, is_data_access, atomic_table}
 use Rattle.model_atomic.proofs.Places.{HasSome, here}
 use Rattle.model_atomic.proofs.Data.{Will, keeps, goes_free}
 

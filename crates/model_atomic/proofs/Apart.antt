@@ -1,10 +1,5 @@
 -- Who reads and writes the data words: only who has the lock, and a writer is alone.
-use Rattle.model_atomic.specs.Names.{MatchOption, Word, Event, HoldKind, Arithmetic, Hold, PendingCall, call_of, holds_of, hold_of, hold_among, word_in, Move, step_at, IsPast, acts_in, CountsHolds}
-use Rattle.model_atomic.proofs.Names.{◌≡◌, ◌≢◌, ℕ, ◌<◌, refl, subst, true, is_some, List, [], ◌∷◌, Option, Some, None, arith, eqb-true, false≢true, counted_of, IsAtPlaceOrRests, each_rests, by_move, eqb-false, nat_tests}
-use Rattle.model_atomic.specs.declared.AtomicPlace.{AtomicPlace}
-use Rattle.model_atomic.specs.Register.{is_data_access}
-use Rattle.model_atomic.specs.Table.{atomic_table}
-use Rattle.model_atomic.specs.Law.{AccessesUnderHold, IsAlone, accesses_to_write, WritesAlone, FewAccesses, RestsWithout}
+use Rattle.model_atomic.proofs.Names.{◌≡◌, ◌≢◌, ℕ, ◌<◌, refl, subst, true, is_some, List, [], ◌∷◌, Option, Some, None, arith, eqb-true, false≢true, counted_of, IsAtPlaceOrRests, each_rests, by_move, eqb-false, nat_tests, MatchOption, Word, Event, HoldKind, Arithmetic, Hold, PendingCall, call_of, holds_of, hold_of, hold_among, word_in, Move, step_at, IsPast, acts_in, CountsHolds, AtomicPlace, is_data_access, atomic_table, AccessesUnderHold, IsAlone, accesses_to_write, WritesAlone, FewAccesses, RestsWithout}
 use Rattle.model_atomic.proofs.Places.{AtAtomic, HasNone, atomic_kept, here}
 use Rattle.model_atomic.proofs.Laws.{keeps_lock}
 

@@ -1,11 +1,6 @@
 -- The data words and the register, at every prefix of every run.
-use Rattle.model_atomic.specs.Names.{MatchOption, WaitAction, Word, Call, Act, Answer, Event, Input, Then, HoldKind, After, Arithmetic, IsValue, IsClosed, carried_out, value_told, outcome_of, place_after, Table, PendingCall, call_of, call_after, latest_outcome, holds_of, hold_of, word_in, word_after, event, writes_in, Move, go_fault, stage_of, next_stage, step_at, fault_at, choose_fault, CallValues, InputValues, IsPast, CountsHolds}
-use Rattle.model_atomic.proofs.Names.{◌≡◌, ◌≢◌, ℕ, ◌==◌, refl, sym, ◌∙◌, ap, subst, true, false, List, [], ◌∷◌, Option, Some, None, ◌⊎◌, inl, inr, arith, eqb-true, eqb_tells, some_same, call_of_same, call_of_other, eqb_same, counted_of, fault_at_none, by_move, carried_goes_on, carried_stage, eqb-false, nat_tests}
+use Rattle.model_atomic.proofs.Names.{◌≡◌, ◌≢◌, ℕ, ◌==◌, refl, sym, ◌∙◌, ap, subst, true, false, List, [], ◌∷◌, Option, Some, None, ◌⊎◌, inl, inr, arith, eqb-true, eqb_tells, some_same, call_of_same, call_of_other, eqb_same, counted_of, fault_at_none, by_move, carried_goes_on, carried_stage, eqb-false, nat_tests, MatchOption, WaitAction, Word, Call, Act, Answer, Event, Input, Then, HoldKind, After, Arithmetic, IsValue, IsClosed, carried_out, value_told, outcome_of, place_after, Table, PendingCall, call_of, call_after, latest_outcome, holds_of, hold_of, word_in, word_after, event, writes_in, Move, go_fault, stage_of, next_stage, step_at, fault_at, choose_fault, CallValues, InputValues, IsPast, CountsHolds, AtomicPlace, act_of, choice_of, HasChosen, low_told, is_last, acted, register_after, answer_in, answer_of, acts_made, puts, knows, atomic_table, DataIsRegister, AnswersAsRegister, LatestAnswers, KeepsAtomic}
 use Rattle.model_events.proofs.Locks.{holds_after}
-use Rattle.model_atomic.specs.declared.AtomicPlace.{AtomicPlace}
-use Rattle.model_atomic.specs.Register.{act_of, choice_of, HasChosen, low_told, is_last, acted, register_after, answer_in, answer_of, acts_made}
-use Rattle.model_atomic.specs.Table.{puts, knows, atomic_table}
-use Rattle.model_atomic.specs.Law.{DataIsRegister, AnswersAsRegister, LatestAnswers, KeepsAtomic}
 use Rattle.model_atomic.proofs.Places.{Looks, AtAtomic, begins_at, here}
 use Rattle.model_atomic.proofs.Laws.{keeps_lock, causes}
 use Rattle.model_atomic.proofs.Apart.{alone, accesses, writes_alone, few_accesses, rests_without}

@@ -1,10 +1,6 @@
 -- An atomic keeps its law at every prefix of every run.
-use Rattle.model_atomic.specs.Names.{Word, Event, HoldKind, Arithmetic, same_word, PendingCall, call_of, holds_of, hold_of, word_in, Move, step_at, IsPast, TellsMemory, IsExclusive, HasCause, is_refusal, Lacks, CountsHolds}
-use Rattle.model_atomic.proofs.Names.{◌≡◌, ℕ, refl, false, List, [], ◌∷◌, Option, by_move, tells_memory, arith, eqb-true, eqb-false, nat_tests}
+use Rattle.model_atomic.proofs.Names.{◌≡◌, ℕ, refl, false, List, [], ◌∷◌, Option, by_move, tells_memory, arith, eqb-true, eqb-false, nat_tests, Word, Event, HoldKind, Arithmetic, same_word, PendingCall, call_of, holds_of, hold_of, word_in, Move, step_at, IsPast, TellsMemory, IsExclusive, HasCause, is_refusal, Lacks, CountsHolds, AtomicPlace, AtomicCause, atomic_table}
 use Rattle.model_rw_reader.proofs.ReaderLocks.{IsReaderLock, IsReaderIntent, reader_lock_word, reader_lock_exclusive}
-use Rattle.model_atomic.specs.declared.AtomicPlace.{AtomicPlace}
-use Rattle.model_atomic.specs.Law.{AtomicCause}
-use Rattle.model_atomic.specs.Table.{atomic_table}
 use Rattle.model_atomic.proofs.Places.{AtAtomic, here}
 
 -- The lock inside is a lock of many readers or one writer.

@@ -1,10 +1,6 @@
 -- Each step of an atomic is its call's next.
-use Rattle.model_atomic.specs.Names.{unwrap_or, MatchOption, Word, Call, Act, Answer, Event, Then, WaitAction, HoldKind, Arithmetic, carried_out, value_told, outcome_of, place_after, PendingCall, latest_outcome, event, step_at, is_step, choose_fault, IsPast, last_of, StepsAs, seen_last, open_at, Releases, lets_readers_in}
-use Rattle.model_atomic.proofs.Names.{eqb-false, eqb-true, nat_tests, ◌≡◌, ℕ, ◌+◌, ◌-◌, ◌^◌, ◌==◌, refl, sym, ◌∙◌, ap, subst, Bool, true, false, cond, is_some, List, [], ◌∷◌, Option, Some, None, arith, some_same, IsKeptFromRest, at_place_from_rest}
+use Rattle.model_atomic.proofs.Names.{eqb-false, eqb-true, nat_tests, ◌≡◌, ℕ, ◌+◌, ◌-◌, ◌^◌, ◌==◌, refl, sym, ◌∙◌, ap, subst, Bool, true, false, cond, is_some, List, [], ◌∷◌, Option, Some, None, arith, some_same, IsKeptFromRest, at_place_from_rest, unwrap_or, MatchOption, Word, Call, Act, Answer, Event, Then, WaitAction, HoldKind, Arithmetic, carried_out, value_told, outcome_of, place_after, PendingCall, latest_outcome, event, step_at, is_step, choose_fault, IsPast, last_of, StepsAs, seen_last, open_at, Releases, lets_readers_in, AtomicPlace, act_of, choice_of, low_told, acts_made, atomic_begins, look_at, inside, knows, atomic_table}
 use Rattle.model_events.proofs.NextStep.{steps_follow}
-use Rattle.model_atomic.specs.declared.AtomicPlace.{AtomicPlace}
-use Rattle.model_atomic.specs.Register.{act_of, choice_of, low_told, acts_made}
-use Rattle.model_atomic.specs.Table.{atomic_begins, look_at, inside, knows, atomic_table}
 use Rattle.model_atomic.specs.Steps.{wants, Enters, has_entered, high_told, value_found, acts_so, Accesses, StepUnder, AtomicStep}
 use Rattle.model_atomic.proofs.Places.{is_store, Asks, AtAtomic, HasNone, atomic_kept}
 

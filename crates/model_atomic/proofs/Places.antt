@@ -1,9 +1,5 @@
 -- What is kept of a call at each place of an atomic.
-use Rattle.model_atomic.specs.Names.{not, WaitAction, Word, Call, Act, Answer, Event, Input, Then, HoldKind, After, Arithmetic, carried_out, value_told, place_after, PendingCall, call_of, hold_of, latest_outcome, hold_after, event, stage_of, step_at, go_fault, answer_fault, choose_fault, CallValues, InputValues, is_refusal, acts_in, IsPast, lets_readers_in}
-use Rattle.model_atomic.proofs.Names.{eqb-false, eqb-true, ◌≡◌, ℕ, ◌+◌, ◌-◌, ◌^◌, ◌<◌, refl, subst, Bool, true, false, is_some, List, [], ◌∷◌, Option, Some, None, ◌⊎◌, arith, nat_tests, some_same, IsKeptFromRest, at_place_from_rest}
-use Rattle.model_atomic.specs.declared.AtomicPlace.{AtomicPlace}
-use Rattle.model_atomic.specs.Register.{choice_of, low_told, is_last, acts_made, is_data_access, HasChosen}
-use Rattle.model_atomic.specs.Table.{atomic_begins, atomic_grant, compares, atomic_table}
+use Rattle.model_atomic.proofs.Names.{eqb-false, eqb-true, ◌≡◌, ℕ, ◌+◌, ◌-◌, ◌^◌, ◌<◌, refl, subst, Bool, true, false, is_some, List, [], ◌∷◌, Option, Some, None, ◌⊎◌, arith, nat_tests, some_same, IsKeptFromRest, at_place_from_rest, not, WaitAction, Word, Call, Act, Answer, Event, Input, Then, HoldKind, After, Arithmetic, carried_out, value_told, place_after, PendingCall, call_of, hold_of, latest_outcome, hold_after, event, stage_of, step_at, go_fault, answer_fault, choose_fault, CallValues, InputValues, is_refusal, acts_in, IsPast, lets_readers_in, AtomicPlace, choice_of, low_told, is_last, acts_made, is_data_access, HasChosen, atomic_begins, atomic_grant, compares, atomic_table}
 
 abbrev pub is_store : {T : Type 0} → Call T → Bool
 is_store (Call.Store x) = true
@@ -109,9 +105,6 @@ answers_at :
 answers_at z place c hold action number h1 h2 = grind (arith, nat_tests, eqb-true, eqb-false)
 
 -- Where a choice leads.
-
-pub offered_nothing : {T : Type 0} (own : List (Event T)) → latest_outcome own ≡ Then.GoesOn → choose_fault (latest_outcome own) ≡ None → ⊥
-offered_nothing {T} own goes stands = let no : choose_fault {T = T} Then.GoesOn ≡ None = subst (λ (o : Then T). choose_fault o ≡ None) goes stands in absurd cc
 
 chooses_at :
     {T : Type 0} (z : Arithmetic T) (v : T) (place : AtomicPlace T) (c : PendingCall T) (hold : Option HoldKind) (choice : Option T) (number : ℕ) → AtAtomic z place c hold → choose_fault (latest_outcome c.own) ≡ None → InputValues z (Input.Choose choice) →

@@ -1,10 +1,9 @@
 -- A barrier keeps its law at every prefix of every run.
 use Rattle.model_barrier.specs.Names.{MatchBool, MatchOption, nat_lt, Word, Call, Act, Answer, Event, Then, After, carried_out, value_told, outcome_of, place_after, within, same_word, PendingCall, call_of, hold_of, word_in, word_after, event, Move, step_at, is_step, is_sight, AtLast, spins_in, last_of, StepsAs, seen_last, WhereAsked, Lacks, is_refusal}
-use Rattle.model_barrier.proofs.Names.{◌≡◌, ◌≢◌, ℕ, ◌+◌, ◌/◌, ◌%◌, ◌≤◌, ◌<◌, ◌^◌, ◌==◌, refl, sym, ◌∙◌, ap, subst, Bool, true, false, cond, List, [], ◌∷◌, Option, Some, None, ◌⊎◌, inl, inr, ◌↔◌, arith, eqb-true, eqb-false, eq-eqb, nat_tests, eqb_other, no_holds, exclusive_unheld, by_move, tells_memory, spins_spent, IsKept, at_place, IsAskedAs, waits_first, waits_as, spins_no_more, both_kept, steps_as, IsToldOf, own_at_last, at_last_maps}
+use Rattle.model_barrier.proofs.Names.{◌≡◌, ◌≢◌, ℕ, ◌+◌, ◌/◌, ◌%◌, ◌≤◌, ◌<◌, ◌^◌, ◌==◌, refl, sym, ◌∙◌, ap, subst, Bool, true, false, cond, List, [], ◌∷◌, Option, Some, None, ◌⊎◌, inl, inr, ◌↔◌, arith, eqb-true, eqb-false, eq-eqb, nat_tests, eqb_other, no_holds, exclusive_unheld, by_move, tells_memory, spins_spent, IsKept, at_place, IsAskedAs, waits_first, waits_as, spins_no_more, both_kept, steps_as, IsToldOf, own_at_last, at_last_maps, epoch_of, count_of, with_arrival, is_arrival, arrivals_in, round_of, full_rounds, IsFull, CountsArrivals}
 use Rattle.model_events.specs.Exports.{Arithmetic, IsPast}
 use Rattle.model_events.specs.declared.{WaitAction.WaitAction, hold.HoldKind.HoldKind, patience.Patience.Patience}
 use Rattle.model_barrier.specs.declared.BarrierPlace.{BarrierPlace}
-use Rattle.model_barrier.specs.Rounds.{epoch_of, count_of, with_arrival, is_arrival, arrivals_in, round_of, full_rounds, IsFull, CountsArrivals}
 use Rattle.model_barrier.specs.Table.{barrier_table, barrier_begins, barrier_intent, barrier_after}
 use Rattle.model_barrier.specs.Law.{BarrierCause, is_ok, is_wake_of_all, is_wake, since_arrival, steps_on, looked, barrier_waiting, BarrierStep, KeepsBarrier}
 use Rattle.model_barrier.proofs.Rounds.{count_is, epoch_is, counts_none, counts_more, later_epoch, filled_round, is_full}

@@ -1,8 +1,7 @@
 -- Which round an arrival is in, and what the word tells of it.
-use Rattle.model_barrier.proofs.Names.{◌≡◌, ◌≢◌, ℕ, ◌+◌, ◌*◌, ◌/◌, ◌%◌, ◌^◌, ◌≤◌, ◌<◌, ◌==◌, refl, ◌∙◌, Bool, true, false, cond, add-mul, arith, eqb-true, nat_tests, eqb-false}
+use Rattle.model_barrier.proofs.Names.{◌≡◌, ◌≢◌, ℕ, ◌+◌, ◌*◌, ◌/◌, ◌%◌, ◌^◌, ◌<◌, ◌==◌, refl, Bool, true, false, cond, add-mul, arith, eqb-true, nat_tests, eqb-false, epoch_of, count_of, opened, with_arrival, CountsArrivals}
 use Rattle.std.proofs.Math.Nat.{zero-div, zero-mod}
 use Rattle.std.proofs.lemmas.Nat.{div-add-mod', div-mul-add, mod-mul-add, mod_below, le-div, mul-le}
-use Rattle.model_barrier.specs.Rounds.{epoch_of, count_of, opened, with_arrival, CountsArrivals}
 
 -- The word at so many arrivals.
 

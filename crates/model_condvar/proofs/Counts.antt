@@ -1,8 +1,5 @@
 -- The waiter count and the parties that wait: each event changes both alike.
-use Rattle.model_condvar.specs.Names.{Word, Event, call_of, call_after, word_in, word_after}
-use Rattle.model_condvar.proofs.Names.{◌≡◌, ◌≢◌, ℕ, ◌+◌, ◌-◌, ◌%◌, ◌^◌, ◌==◌, refl, sym, ◌∙◌, subst, Bool, true, false, cond, List, [], ◌∷◌, length, ◌⊎◌, inl, inr, arith, eqb_tells, eqb_other, eqb-true, eqb-false, nat_tests}
-use Rattle.model_condvar.specs.Table.{condvar_table}
-use Rattle.model_condvar.specs.Waiters.{is_count, is_counted, without, times, CountsWaiters}
+use Rattle.model_condvar.proofs.Names.{◌≡◌, ◌≢◌, ℕ, ◌+◌, ◌-◌, ◌%◌, ◌^◌, ◌==◌, refl, sym, subst, Bool, true, false, cond, List, [], ◌∷◌, length, ◌⊎◌, inl, inr, arith, eqb_tells, eqb_other, eqb-true, eqb-false, nat_tests, Word, Event, call_of, call_after, word_in, word_after, condvar_table, is_count, is_counted, without, times, CountsWaiters}
 
 -- what an event does to the count: nothing; or its call, which was not counted, adds itself; or it was, and subtracts itself
 abbrev pub CountEffect : ℕ → ℕ → Bool → Bool → Bool → Type 0

@@ -1,12 +1,7 @@
 -- A condition variable keeps its law at every prefix of every run.
-use Rattle.model_condvar.specs.Names.{IfSome, MatchBool, MatchOption, Word, Wake, Call, Act, Answer, Event, Then, HoldKind, After, Arithmetic, outcome_of, within, same_word, PendingCall, call_of, call_after, call_going_on, holds_of, hold_of, hold_after, word_in, word_after, event, Move, step_at, fault_at, begin_fault, IsPast, sight_of, is_sight, keeps_asking, WhereAsked, IsTold, Lacks, is_refusal, MutexPlace, mutex_after, acts_of, answer_of, SemaphorePlace, permits_given, permits_taken, is_take, number_answered}
-use Rattle.model_condvar.proofs.Names.{nat_tests, ◌≡◌, ◌∙◌, ℕ, ◌+◌, ◌%◌, ◌^◌, ◌==◌, ◌&&◌, refl, sym, subst, Bool, true, false, cond, List, [], ◌∷◌, Option, Some, None, ◌⊎◌, inl, inr, ◌↔◌, arith, eqb-true, eqb-false, hold_of_same, at_last_sight, at_place, fault_at_none, waits_first, waits_as, spins_no_more, LockLeads, lock_leads, AtMutex, WaitLeads, wait_leads, by_move, tells_memory, IsLock, IsLockIntent, IsFreeOrHeld, lock_word, lock_exclusive}
+use Rattle.model_condvar.proofs.Names.{nat_tests, ◌≡◌, ◌∙◌, ℕ, ◌==◌, refl, sym, subst, Bool, true, false, cond, List, [], ◌∷◌, Option, Some, None, inl, inr, ◌↔◌, arith, eqb-true, eqb-false, hold_of_same, at_last_sight, at_place, fault_at_none, waits_first, waits_as, spins_no_more, LockLeads, lock_leads, AtMutex, WaitLeads, wait_leads, by_move, tells_memory, IsLock, IsLockIntent, IsFreeOrHeld, lock_word, lock_exclusive, IfSome, MatchBool, MatchOption, Word, Wake, Call, Act, Answer, Event, Then, HoldKind, After, Arithmetic, outcome_of, same_word, PendingCall, call_of, call_after, call_going_on, holds_of, hold_of, hold_after, word_in, word_after, event, Move, step_at, fault_at, begin_fault, IsPast, sight_of, is_sight, keeps_asking, WhereAsked, IsTold, Lacks, is_refusal, MutexPlace, mutex_after, acts_of, answer_of, SemaphorePlace, permits_given, permits_taken, is_take, number_answered, CondvarPlace, condvar_table, condvar_grant, permitted, relocked, is_count, counts_in, since_count, is_counted, CountsWaiters, condvar_gives, condvar_value, HasAbortedSince, FoundNoPermit, CondvarCause, IsAnswer, spins_of, gives_up, HasTried, KeepsCondvar, spins_on, refused_by, wait_of, condvar_waiting}
 use Rattle.model_events.specs.declared.event.Input.{Input}
 use Rattle.model_semaphore.proofs.Permits.{Effect, Tallies, tallies_first, tallies_after, lowered}
-use Rattle.model_condvar.specs.declared.CondvarPlace.{CondvarPlace}
-use Rattle.model_condvar.specs.Table.{condvar_table, condvar_grant, permitted, relocked}
-use Rattle.model_condvar.specs.Waiters.{is_count, counts_in, since_count, is_counted, CountsWaiters}
-use Rattle.model_condvar.specs.Law.{condvar_gives, condvar_value, HasAbortedSince, FoundNoPermit, CondvarCause, IsAnswer, spins_of, gives_up, HasTried, KeepsCondvar, spins_on, refused_by, wait_of, condvar_waiting}
 use Rattle.model_condvar.proofs.Counts.{CountEffect, none_wait, counts_after}
 use Rattle.model_condvar.proofs.NextSteps.{each_steps, each_ends}
 use Rattle.model_condvar.proofs.Places.{notify, Progress, SawNone, SignalIs, took, AtCondvar, condvar_kept, spins_bounded}

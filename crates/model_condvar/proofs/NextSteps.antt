@@ -1,12 +1,7 @@
 -- Each step of a condition variable is its call's next.
-use Rattle.model_condvar.specs.Names.{WaitAction, Word, Wake, Call, Act, Answer, Event, Then, HoldKind, After, Arithmetic, carried_out, value_told, place_after, within, PendingCall, event, latest_outcome, step_at, answer_fault, choose_fault, is_step, IsPast, is_abort, keeps_asking, spins_in, StepsAs, EndsWithin, Exchanges, MutexPlace, SemaphorePlace, is_empty_look}
-use Rattle.model_condvar.proofs.Names.{eqb-false, eqb-true, nat_tests, ◌≡◌, ℕ, ◌+◌, ◌-◌, ◌%◌, ◌^◌, ◌==◌, ◌&&◌, refl, ◌∙◌, Bool, true, false, cond, List, [], ◌∷◌, Option, Some, None, ◌≤◌, ◌<◌, arith, IsKept, mutex_rest}
+use Rattle.model_condvar.proofs.Names.{eqb-false, eqb-true, nat_tests, ◌≡◌, ℕ, ◌+◌, ◌-◌, refl, Bool, true, false, cond, List, [], ◌∷◌, Option, Some, None, ◌≤◌, ◌<◌, arith, IsKept, mutex_rest, WaitAction, Word, Wake, Call, Act, Answer, Event, Then, HoldKind, After, Arithmetic, carried_out, value_told, place_after, within, PendingCall, event, latest_outcome, step_at, answer_fault, choose_fault, is_step, IsPast, is_abort, keeps_asking, spins_in, StepsAs, EndsWithin, Exchanges, MutexPlace, SemaphorePlace, is_empty_look, CondvarPlace, condvar_begins, condvar_after, condvar_answered, condvar_table, permitted, since_count, left_waiting, LooksForPermit, CountsOut, CountedNext, condvar_most, CondvarStep}
 use Rattle.model_events.specs.declared.patience.Patience.{Patience}
 use Rattle.model_events.proofs.NextStep.{steps_as, Descends, ends_within}
-use Rattle.model_condvar.specs.declared.CondvarPlace.{CondvarPlace}
-use Rattle.model_condvar.specs.Table.{condvar_begins, condvar_after, condvar_answered, condvar_table, permitted}
-use Rattle.model_condvar.specs.Waiters.{since_count}
-use Rattle.model_condvar.specs.Law.{left_waiting, LooksForPermit, CountsOut, CountedNext, condvar_most, CondvarStep}
 use Rattle.model_condvar.proofs.Places.{AtCondvar, condvar_kept}
 
 -- What the step at a place of a counted `Wait` is, by whether it keeps on asking and how often it has spun.

@@ -1,10 +1,5 @@
 -- What is kept of a call at each place of a condition variable: at the mutex's and the semaphore's rows what these keep.
-use Rattle.model_condvar.specs.Names.{WaitAction, Word, Wake, Call, Act, Event, Then, HoldKind, After, carried_out, value_told, outcome_of, place_after, within, PendingCall, latest_outcome, event, is_release, hold_after, step_at, hold_fault, answer_fault, choose_fault, is_sight, keeps_asking, spins_in, acts_in, but_last_try, MutexPlace, mutex_intent, mutex_after, acts_of, SemaphorePlace, is_take, is_empty_look}
-use Rattle.model_condvar.proofs.Names.{◌≡◌, ◌∙◌, ℕ, ◌+◌, ◌%◌, ◌^◌, ◌==◌, refl, ap, subst, Bool, true, false, cond, is_some, List, [], ◌∷◌, Option, Some, None, arith, ◌-◌, ◌≤◌, ◌&&◌, eqb-true, LastSaw, IsKept, HasSpun, begun_spun, passed_on, AtLock, LockLeads, lock_begins, lock_leads, AtMutex, AtWait, WaitLeads, wait_leads, eqb-false, nat_tests}
-use Rattle.model_condvar.specs.declared.CondvarPlace.{CondvarPlace}
-use Rattle.model_condvar.specs.Table.{permits_for, condvar_begins, condvar_after, condvar_answered, condvar_table, permitted, relocked}
-use Rattle.model_condvar.specs.Waiters.{is_count, counts_in, since_count}
-use Rattle.model_condvar.specs.Law.{count_read, amount_for, takes_in, is_wake_one, is_read, is_post, spins_on}
+use Rattle.model_condvar.proofs.Names.{◌≡◌, ◌∙◌, ℕ, ◌+◌, ◌%◌, ◌^◌, ◌==◌, refl, ap, subst, Bool, true, false, cond, is_some, List, [], ◌∷◌, Option, Some, None, arith, ◌≤◌, eqb-true, LastSaw, IsKept, HasSpun, begun_spun, passed_on, AtLock, LockLeads, lock_begins, lock_leads, AtMutex, AtWait, WaitLeads, wait_leads, eqb-false, nat_tests, WaitAction, Word, Wake, Call, Act, Event, Then, HoldKind, After, carried_out, value_told, outcome_of, place_after, within, PendingCall, latest_outcome, event, is_release, hold_after, step_at, hold_fault, answer_fault, choose_fault, is_sight, keeps_asking, spins_in, acts_in, but_last_try, MutexPlace, mutex_intent, mutex_after, acts_of, SemaphorePlace, is_take, is_empty_look, CondvarPlace, permits_for, condvar_begins, condvar_after, condvar_answered, condvar_table, permitted, relocked, is_count, counts_in, since_count, count_read, amount_for, takes_in, is_wake_one, is_read, is_post, spins_on}
 
 -- the call of a notify that wakes so
 abbrev pub notify : {T : Type 0} → Wake → Call T
@@ -85,9 +80,6 @@ begins_at :
 begins_at call place hold h1 h2 = grind (arith, nat_tests, eqb-true, eqb-false)
 
 -- Where a step leads.
-
-pub outcome_within : {T P Q : Type 0} (wrap : P → Q) (a : After T P) → outcome_of (within wrap a) ≡ outcome_of a
-outcome_within wrap a = grind (arith, nat_tests, eqb-true, eqb-false)
 
 mutex_steps :
     {T : Type 0} (place : MutexPlace) (c : PendingCall T) (hold : Option HoldKind) (memory : Word → ℕ) (number : ℕ) (next : CondvarPlace) → AtMutex place c hold →

@@ -1,23 +1,7 @@
 -- When a wait closure is asked, from the step at each place.
-use Rattle.std.proofs.lemmas.Bool.{eqb-true, eqb-false}
-use Rattle.std.proofs.lemmas.Bool.Decides.{nat_tests}
-use Rattle.std.proofs.Common.{◌≡◌, ◌≤◌, ℕ, Bool, true, List, [], ◌∷◌, Option, Some, None, arith}
-use Rattle.std.specs.Prelude.{MatchOption}
-use Rattle.model_events.specs.Exports.{Arithmetic, refused, within, outcome_of, Table, PendingCall, call_of, hold_of, IsPast, keeps_asking, spins_in, WhereAsked, SpinCount, SpinsNoMore, but_last_try, Waiting, WaitsAs}
-use Rattle.model_events.specs.Types.{Act, Event, Then, HoldKind, Patience}
+use Rattle.model_events.proofs.Names.{eqb-true, eqb-false, nat_tests, ◌≡◌, ◌≤◌, ℕ, Bool, true, List, [], ◌∷◌, Option, Some, None, arith, MatchOption, Arithmetic, refused, within, outcome_of, Table, PendingCall, call_of, hold_of, IsPast, keeps_asking, spins_in, WhereAsked, SpinCount, SpinsNoMore, but_last_try, Waiting, WaitsAs, Act, Event, Then, HoldKind, Patience}
 use Rattle.model_events.proofs.Spins.{HasSpun}
 use Rattle.model_events.proofs.Parties.{IsKept, IsAtPlace, each_call}
-
--- what is so of a call that asks may be told in other words
-pub asked_of :
-    {T : Type 0} (P Q : PendingCall T → Act T → ℕ → Type 0) (c : PendingCall T) (act : Act T) → ((told : ℕ) → P c act told → Q c act told) → (outcome : Then T) → WhereAsked P (Some c) act outcome → WhereAsked Q (Some c) act outcome
-asked_of P Q c act h1 outcome h2 = grind (arith, nat_tests, eqb-true, eqb-false)
-
--- and so of each call
-pub asked_maps :
-    {T : Type 0} (P Q : PendingCall T → Act T → ℕ → Type 0) → ((c : PendingCall T) (act : Act T) (told : ℕ) → P c act told → Q c act told) →
-    (pending : Option (PendingCall T)) (act : Act T) (outcome : Then T) → WhereAsked P pending act outcome → WhereAsked Q pending act outcome
-asked_maps P Q h1 pending act outcome h2 = grind (arith, nat_tests, eqb-true, eqb-false)
 
 -- what is so of a call where it asks, so that it waits as it should
 abbrev pub IsAskedAs : {T : Type 0} → Waiting T → PendingCall T → Act T → ℕ → Type 0

@@ -1,9 +1,5 @@
 -- Holds of two kinds in one list: each party has one at most, so a release takes away one hold, and that of its party.
-use Rattle.std.proofs.lemmas.Bool.Decides.{nat_tests}
-use Rattle.std.proofs.Common.{◌≡◌, ℕ, zero, suc, ◌+◌, ◌<◌, ◌==◌, refl, ap, subst, Bool, true, false, cond, List, [], ◌∷◌, Some, None, length, get_or, arith}
-use Rattle.std.proofs.lemmas.Bool.{eqb-true, eqb-false}
-use Rattle.model_events.specs.Exports.{Hold, hold_among, without, same_kind, holds_of_kind, reads_in, writes_in, IsExclusive}
-use Rattle.model_events.specs.Types.{HoldKind}
+use Rattle.model_events.proofs.Names.{nat_tests, ◌≡◌, ℕ, zero, suc, ◌+◌, ◌<◌, ◌==◌, refl, ap, subst, Bool, true, false, cond, List, [], ◌∷◌, Some, None, length, get_or, arith, eqb-true, eqb-false, Hold, hold_among, without, same_kind, holds_of_kind, reads_in, writes_in, IsExclusive, HoldKind}
 use Rattle.model_events.proofs.Holds.{hold_among-without_same, hold_among-without_other}
 
 -- each party has one hold at most

@@ -1,9 +1,5 @@
 -- What one more event changes in the calls and the holds of each party.
-use Rattle.std.proofs.Common.{◌≡◌, ◌≢◌, ℕ, ◌==◌, refl, sym, ◌∙◌, Bool, true, false, cond, List, [], ◌∷◌, Option, Some, None, arith}
-use Rattle.std.proofs.lemmas.Bool.{eq-eqb, eqb-true, eqb-false}
-use Rattle.std.proofs.lemmas.Bool.Decides.{nat_tests}
-use Rattle.model_events.specs.Exports.{Table, Hold, PendingCall, call_of, call_after, holds_of, hold_among, hold_or, hold_after, without, with_hold, is_release, hold_taken, event, IsExclusive}
-use Rattle.model_events.specs.Types.{Call, Act, Then, Event, HoldKind}
+use Rattle.model_events.proofs.Names.{◌≡◌, ◌≢◌, ℕ, ◌==◌, refl, sym, ◌∙◌, Bool, true, false, cond, List, [], ◌∷◌, Option, Some, None, arith, eq-eqb, eqb-true, eqb-false, nat_tests, Table, Hold, PendingCall, call_of, call_after, holds_of, hold_among, hold_or, hold_after, without, with_hold, is_release, hold_taken, event, IsExclusive, Call, Act, Then, Event, HoldKind}
 
 pub eqb_same : (p : ℕ) → (p == p) ≡ true
 eqb_same p = eq-eqb p p refl

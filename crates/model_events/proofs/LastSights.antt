@@ -1,10 +1,5 @@
 -- What a call knows of a word by its last look: the word still holds what was seen, or another party has written it since.
-use Rattle.std.proofs.lemmas.Bool.{eqb-true, eqb-false}
-use Rattle.std.proofs.lemmas.Bool.Decides.{nat_tests}
-use Rattle.std.proofs.Common.{◌≡◌, ℕ, ◌==◌, refl, sym, ◌∙◌, subst, Bool, true, false, cond, List, [], ◌∷◌, Option, Some, ◌⊎◌, inl, inr, arith}
-use Rattle.std.specs.Prelude.{MatchBool}
-use Rattle.model_events.specs.Exports.{Arithmetic, Table, PendingCall, word_after, word_in, call_of, call_after, IsPast, sight_of, is_sight, is_beginning, is_write, AtLastSight, OtherWroteSinceSight, IsTold}
-use Rattle.model_events.specs.Types.{Word, Act, Call, Event, Then}
+use Rattle.model_events.proofs.Names.{eqb-true, eqb-false, nat_tests, ◌≡◌, ℕ, ◌==◌, refl, sym, ◌∙◌, subst, Bool, true, false, cond, List, [], ◌∷◌, Option, Some, ◌⊎◌, inl, inr, arith, MatchBool, Arithmetic, Table, PendingCall, word_after, word_in, call_of, call_after, IsPast, sight_of, is_sight, is_beginning, is_write, AtLastSight, OtherWroteSinceSight, IsTold, Word, Act, Call, Event, Then}
 use Rattle.model_events.proofs.Steps.{tells_memory}
 
 -- the latest of a call's own events is a look: it told this value and wrote nothing

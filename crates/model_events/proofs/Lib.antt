@@ -1,3 +1,4 @@
+pub mod Names
 pub mod Holds
 pub mod HoldCounts
 pub mod Steps

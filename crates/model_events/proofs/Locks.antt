@@ -1,9 +1,5 @@
 -- A lock for one holder: an object whose locking exchange puts 1 in the place of 0, and whose release stores 0.
-use Rattle.std.proofs.lemmas.Bool.Decides.{nat_tests}
-use Rattle.std.proofs.Common.{◌≡◌, ◌≢◌, ℕ, refl, true, cond, is_some, List, [], ◌∷◌, Option, Some, ◌⊎◌, inl, ◌↔◌, arith}
-use Rattle.std.proofs.lemmas.Bool.{eqb-true, eqb-false}
-use Rattle.model_events.specs.Exports.{Arithmetic, carried_out, Table, Hold, PendingCall, call_of, holds_of, hold_of, hold_among, word_in, word_after, without, with_hold, is_release, hold_taken, Move, stage_of, IsPast, IsExclusive, IsLocked}
-use Rattle.model_events.specs.Types.{Word, Act, Event, HoldKind, Intent}
+use Rattle.model_events.proofs.Names.{nat_tests, ◌≡◌, ◌≢◌, ℕ, refl, true, cond, is_some, List, [], ◌∷◌, Option, Some, ◌⊎◌, inl, ◌↔◌, arith, eqb-true, eqb-false, Arithmetic, carried_out, Table, Hold, PendingCall, call_of, holds_of, hold_of, hold_among, word_in, word_after, without, with_hold, is_release, hold_taken, Move, stage_of, IsPast, IsExclusive, IsLocked, Word, Act, Event, HoldKind, Intent}
 use Rattle.model_events.proofs.Steps.{by_move}
 
 -- what a step of such an object may do to the lock's word: take the lock, as far as its call grants a write hold, or release it with a hold
@@ -53,10 +49,6 @@ lock_word {T} {P} z t parties lock (e ∷ past) run =
 
 pub lock_exclusive : (w : ℕ) (holds : List Hold) → IsFreeOrHeld w holds → IsExclusive holds
 lock_exclusive w holds h1 = grind (arith, nat_tests, eqb-true, eqb-false)
-
--- where the word is not 0 the lock is held, and where it is 0 it is not
-pub locked_at : {T P : Type 0} (t : Table T P) (past : List (Event T)) (w : ℕ) → IsFreeOrHeld w (holds_of t past) → w ≢ 0 → IsLocked t past
-locked_at t past w h1 h2 = grind (arith, nat_tests, eqb-true, eqb-false)
 
 pub free_exactly : (w : ℕ) (holds : List Hold) → IsFreeOrHeld w holds → (w ≡ 0) ↔ (holds ≡ [])
 free_exactly w holds h1 = grind (arith, nat_tests, eqb-true, eqb-false)

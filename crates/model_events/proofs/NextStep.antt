@@ -1,10 +1,5 @@
 -- That each step of a run is its call's next, from the step at each place.
-use Rattle.std.proofs.lemmas.Bool.{eqb-true, eqb-false}
-use Rattle.std.proofs.lemmas.Bool.Decides.{nat_tests}
-use Rattle.std.proofs.Common.{◌≡◌, ◌∙◌, ℕ, ◌+◌, ◌≤◌, ◌<◌, refl, Bool, List, [], ◌∷◌, Option, Some, None, arith}
-use Rattle.std.specs.Prelude.{MatchBool, MatchOption}
-use Rattle.model_events.specs.Exports.{Arithmetic, carried_out, value_told, outcome_of, place_after, within, refused, Table, PendingCall, call_of, hold_of, word_in, Move, stage_of, step_at, is_step, IsPast, acts_in, spins_in, StepsAs, refused_waiting, EndsWithin}
-use Rattle.model_events.specs.Types.{WaitAction, Word, Call, Act, Event, Then, HoldKind, Patience}
+use Rattle.model_events.proofs.Names.{eqb-true, eqb-false, nat_tests, ◌≡◌, ◌∙◌, ℕ, ◌+◌, ◌≤◌, ◌<◌, refl, Bool, List, [], ◌∷◌, Option, Some, None, arith, MatchBool, MatchOption, Arithmetic, carried_out, value_told, outcome_of, place_after, within, refused, Table, PendingCall, call_of, hold_of, word_in, Move, stage_of, step_at, is_step, IsPast, acts_in, spins_in, StepsAs, refused_waiting, EndsWithin, WaitAction, Word, Call, Act, Event, Then, HoldKind, Patience}
 use Rattle.model_events.proofs.Steps.{by_move, carried_is_step}
 use Rattle.model_events.proofs.Spins.{HasSpun}
 use Rattle.model_events.proofs.Parties.{IsKept, IsAtPlace, at_place, each_call}
@@ -39,12 +34,6 @@ pub steps_as :
     {T P : Type 0} (z : Arithmetic T) (t : Table T P) (parties : ℕ) (At : P → PendingCall T → Option HoldKind → Type 0) (Next : Call T → List (Event T) → Act T → Then T → Type 0) →
     IsKept t At → LeadOn z t parties At Next → (past : List (Event T)) → IsPast z t parties past → StepsAs Next past
 steps_as z t parties At Next kept leads past run = steps_follow z t parties At Next (at_place z t parties At kept) leads past run
-
--- how a refused call with a wait closure is left, that has this patience
-pub refused_left :
-    {T P : Type 0} (in_vain : Act T → Bool) (wrap : Patience → P) (patience : Patience) (seen : ℕ) (own : List (Event T)) → HasSpun in_vain patience own →
-    outcome_of (within wrap (refused {T = T} patience seen)) ≡ refused_waiting own (spins_in in_vain own) seen
-refused_left in_vain wrap patience seen own h1 = grind (arith, nat_tests, eqb-true, eqb-false)
 
 -- A call that waits for nobody ends within so many steps, where fewer of them are left at each place than at the one before.
 

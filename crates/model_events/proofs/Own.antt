@@ -1,10 +1,5 @@
 -- What a call's own events are among all events.
-use Rattle.std.proofs.Common.{◌≡◌, ◌≢◌, ℕ, ◌≤◌, ◌<◌, ◌==◌, refl, sym, subst, Bool, true, false, cond, List, [], ◌∷◌, Some, ◌⊎◌, inl, inr, arith}
-use Rattle.std.specs.Prelude.{MatchBool}
-use Rattle.std.proofs.lemmas.Bool.{eq-eqb, eqb-true, eqb-false}
-use Rattle.std.proofs.lemmas.Bool.Decides.{nat_tests}
-use Rattle.model_events.specs.Exports.{Arithmetic, Table, PendingCall, call_of, word_in, IsPast, AtLast, is_beginning, acts_in, last_of, IsTold}
-use Rattle.model_events.specs.Types.{Act, Event}
+use Rattle.model_events.proofs.Names.{◌≡◌, ◌≢◌, ℕ, ◌≤◌, ◌<◌, ◌==◌, refl, sym, subst, Bool, true, false, cond, List, [], ◌∷◌, Some, ◌⊎◌, inl, inr, arith, MatchBool, eq-eqb, eqb-true, eqb-false, nat_tests, Arithmetic, Table, PendingCall, call_of, word_in, IsPast, AtLast, is_beginning, acts_in, last_of, IsTold, Act, Event}
 use Rattle.model_events.proofs.Holds.{some_same, eqb_other}
 use Rattle.model_events.proofs.Steps.{tells_memory}
 

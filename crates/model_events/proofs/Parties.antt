@@ -1,9 +1,5 @@
 -- What each party keeps, through every event: of its call under way, the call's place, and its hold.
-use Rattle.std.proofs.lemmas.Bool.{eqb-true, eqb-false}
-use Rattle.std.proofs.Common.{◌≡◌, ◌≢◌, ℕ, ◌==◌, refl, sym, ◌∙◌, ap, subst, true, false, cond, is_some, List, [], ◌∷◌, Option, Some, None, ◌⊎◌, inl, inr, arith}
-use Rattle.std.proofs.lemmas.Bool.Decides.{eqb_tells, nat_tests}
-use Rattle.model_events.specs.Exports.{Arithmetic, carried_out, value_told, outcome_of, place_after, Table, PendingCall, call_of, call_after, call_going_on, hold_of, hold_after, word_in, latest_outcome, event, Move, stage_of, next_stage, step_at, move_of, fault_at, fault_of, hold_fault, begin_fault, go_fault, answer_fault, choose_fault, CallValues, InputValues, IsNext, IsPast}
-use Rattle.model_events.specs.Types.{WaitAction, Word, Call, Act, Answer, Event, Input, StepFault, Then, HoldKind, After}
+use Rattle.model_events.proofs.Names.{eqb-true, eqb-false, ◌≡◌, ◌≢◌, ℕ, ◌==◌, refl, sym, ◌∙◌, ap, subst, true, false, cond, is_some, List, [], ◌∷◌, Option, Some, None, ◌⊎◌, inl, inr, arith, eqb_tells, nat_tests, Arithmetic, carried_out, value_told, outcome_of, place_after, Table, PendingCall, call_of, call_after, call_going_on, hold_of, hold_after, word_in, latest_outcome, event, Move, stage_of, next_stage, step_at, move_of, fault_at, fault_of, hold_fault, begin_fault, go_fault, answer_fault, choose_fault, CallValues, InputValues, IsNext, IsPast, WaitAction, Word, Call, Act, Answer, Event, Input, StepFault, Then, HoldKind, After}
 use Rattle.model_events.proofs.Holds.{some_same, call_of_same, call_of_other, hold_of_same, hold_of_other}
 use Rattle.model_events.proofs.Steps.{by_move, carried_goes_on, carried_stage}
 

@@ -1,9 +1,5 @@
 -- A lock with read and write holds answers by the hold: from its step at each place.
-use Rattle.std.proofs.lemmas.Bool.{eqb-true, eqb-false}
-use Rattle.std.proofs.lemmas.Bool.Decides.{nat_tests}
-use Rattle.std.proofs.Common.{◌≡◌, sym, ◌∙◌, ap, subst, ℕ, Bool, cond, List, [], ◌∷◌, Option, Some, None, arith}
-use Rattle.model_events.specs.Exports.{Arithmetic, outcome_of, place_after, Table, PendingCall, call_of, hold_of, hold_after, word_in, event, Move, stage_of, step_at, IsPast, kind_wanted, IsRwAnswer, IsAnswered, AnswersByHold}
-use Rattle.model_events.specs.Types.{Word, Call, Act, Answer, Event, Then, HoldKind, After}
+use Rattle.model_events.proofs.Names.{eqb-true, eqb-false, nat_tests, ◌≡◌, sym, ◌∙◌, ap, subst, ℕ, Bool, cond, List, [], ◌∷◌, Option, Some, None, arith, Arithmetic, outcome_of, place_after, Table, PendingCall, call_of, hold_of, hold_after, word_in, event, Move, stage_of, step_at, IsPast, kind_wanted, IsRwAnswer, IsAnswered, AnswersByHold, Word, Call, Act, Answer, Event, Then, HoldKind, After}
 use Rattle.model_events.proofs.Holds.{hold_of_same}
 use Rattle.model_events.proofs.Steps.{by_move}
 
@@ -61,12 +57,6 @@ pub leads_on :
     {T P : Type 0} (At : P → List (Event T) → Option HoldKind → Type 0) (own : List (Event T)) (hold : Option HoldKind) (number : ℕ) (act : Act T) (next : P) (a : After T P) →
     LeadsTo At own hold number act a → place_after a ≡ Some next → At next (event number act (outcome_of a) ∷ own) hold
 leads_on At own hold number act next a h1 h2 = grind (arith, nat_tests, eqb-true, eqb-false)
-
--- a step that tries on leads to a place of which nothing is to be kept
-pub try_leads :
-    {T P : Type 0} (Goes : P → Type 0) (At : P → List (Event T) → Option HoldKind → Type 0) → ((place : P) (own : List (Event T)) (hold : Option HoldKind) → Goes place → At place own hold) →
-    (own : List (Event T)) (hold : Option HoldKind) (number : ℕ) (act : Act T) (a : After T P) → IsTryOn Goes a → LeadsTo At own hold number act a
-try_leads Goes At h1 own hold number act a h2 = grind (arith, nat_tests, eqb-true, eqb-false)
 
 -- at every prefix, from the step at each place
 pub answers_by_hold :

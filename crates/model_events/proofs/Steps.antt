@@ -1,17 +1,10 @@
 -- What an event is, at any table: by its input, with the form of its input, and telling what the memory holds.
-use Rattle.std.proofs.lemmas.Bool.{eqb-true, eqb-false}
-use Rattle.std.proofs.lemmas.Bool.Decides.{nat_tests}
-use Rattle.std.proofs.Common.{◌≡◌, refl, ◌∙◌, ℕ, true, List, [], ◌∷◌, Option, Some, arith}
-use Rattle.model_events.specs.Exports.{Arithmetic, carried_out, value_told, place_after, Table, PendingCall, word_after, call_of, call_going_on, hold_of, word_in, HasForm, Move, stage_of, stage_after, step_at, move_of, is_step, IsPast, IsTold, TellsMemory, is_apart, Lacks}
-use Rattle.model_events.specs.Types.{WaitAction, Word, Call, Act, Event, Input, Then, HoldKind, Intent}
+use Rattle.model_events.proofs.Names.{eqb-true, eqb-false, nat_tests, ◌≡◌, refl, ◌∙◌, ℕ, true, List, [], ◌∷◌, Option, Some, arith, Arithmetic, carried_out, value_told, place_after, Table, PendingCall, word_after, call_of, call_going_on, hold_of, word_in, HasForm, Move, stage_of, stage_after, step_at, move_of, is_step, IsPast, IsTold, TellsMemory, is_apart, Lacks, WaitAction, Word, Call, Act, Event, Input, Then, HoldKind, Intent}
 
 -- A step that is carried out.
 
 pub carried_is_step : {T : Type 0} (intent : Intent T) (memory : Word → ℕ) → is_step (carried_out intent memory) ≡ true
 carried_is_step intent memory = grind (arith, nat_tests, eqb-true, eqb-false)
-
-pub carried_is_told : {T : Type 0} (intent : Intent T) (memory : Word → ℕ) → IsTold (carried_out intent memory) memory
-carried_is_told intent memory = grind (arith, nat_tests, eqb-true, eqb-false)
 
 -- its call has it as an event of its own
 pub carried_goes_on :

@@ -1,6 +1,6 @@
 -- A lazy value keeps its law at every prefix of every run. The word and the closure are those of the once inside.
 use Rattle.std.proofs.lemmas.Bool.Decides.{nat_tests}
-use Rattle.std.proofs.Common.{◌≡◌, ℕ, ◌≤◌, ◌==◌, refl, ◌∙◌, subst, Bool, true, false, cond, List, [], ◌∷◌, Option, Some, inl, inr, arith}
+use Rattle.std.proofs.Common.{◌≡◌, ℕ, ◌≤◌, refl, subst, Bool, true, false, cond, List, [], ◌∷◌, Option, Some, inl, inr, arith}
 use Rattle.std.specs.Prelude.{IfSome, MatchBool, MatchOption}
 use Rattle.std.proofs.lemmas.Bool.{eqb-true, eqb-false}
 use Rattle.model_events.specs.Exports.{Arithmetic, outcome_of, same_word, PendingCall, call_of, hold_of, word_in, word_after, event, Move, step_at, is_step, IsPast, AtLast, last_of, IsTold, Lacks, is_refusal}

@@ -1,10 +1,6 @@
 -- A mutex keeps its law at every prefix of every run.
-use Rattle.model_mutex.specs.Names.{MatchBool, MatchOption, WaitAction, Word, Wake, Call, Act, Answer, Event, Then, HoldKind, Table, carried_out, value_told, place_after, same_word, PendingCall, call_of, holds_of, hold_of, hold_after, word_in, latest_outcome, event, Move, step_at, hold_fault, answer_fault, choose_fault, is_step, sight_of, is_sight, keeps_asking, spins_in, WhereAsked, Lacks, is_refusal}
-use Rattle.model_mutex.proofs.Names.{◌≡◌, ◌≢◌, ◌≤◌, ℕ, ◌==◌, refl, sym, ◌∙◌, subst, true, false, is_some, List, [], ◌∷◌, Option, Some, None, ◌↔◌, arith, ◌<◌, eqb-true, eqb-false, nat_tests, Descends, ends_within, hold_of_same, by_move, tells_memory, IsKept, at_place, waits_first, waits_as, spins_no_more, IsLock, IsLockIntent, IsFreeOrHeld, lock_word, lock_exclusive}
+use Rattle.model_mutex.proofs.Names.{◌≡◌, ◌≤◌, ℕ, refl, sym, ◌∙◌, subst, true, false, is_some, List, [], ◌∷◌, Option, Some, None, ◌↔◌, arith, ◌<◌, eqb-true, eqb-false, nat_tests, Descends, ends_within, hold_of_same, by_move, tells_memory, IsKept, at_place, waits_first, waits_as, spins_no_more, IsLock, IsLockIntent, IsFreeOrHeld, lock_word, lock_exclusive, MatchBool, MatchOption, WaitAction, Word, Call, Act, Answer, Event, Then, HoldKind, Table, carried_out, value_told, place_after, same_word, PendingCall, call_of, holds_of, hold_of, hold_after, word_in, latest_outcome, event, Move, step_at, hold_fault, answer_fault, choose_fault, is_step, sight_of, is_sight, keeps_asking, spins_in, WhereAsked, Lacks, is_refusal, MutexPlace, mutex_table, mutex_begins, mutex_intent, mutex_after, mutex_answered, LockCause, HasTried, answer_of, acts_of, IsLockAnswer, lock_spins, steps_on, MutexStep, KeepsMutex, mutex_most, mutex_waiting}
 use Rattle.model_events.specs.Exports.{Arithmetic, IsPast}
-use Rattle.model_mutex.specs.declared.MutexPlace.{MutexPlace}
-use Rattle.model_mutex.specs.Table.{mutex_table, mutex_begins, mutex_intent, mutex_after, mutex_answered}
-use Rattle.model_mutex.specs.Law.{LockCause, HasTried, answer_of, acts_of, IsLockAnswer, lock_spins, steps_on, MutexStep, KeepsMutex, mutex_most, mutex_waiting}
 use Rattle.model_mutex.proofs.LockSteps.{HasTriedSo}
 
 -- What is kept of a call at its place.

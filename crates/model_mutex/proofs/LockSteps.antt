@@ -1,10 +1,6 @@
 -- What each exchange of a `Lock` leads to, by the events that the call has made for the lock alone: so it serves a lock inside another call too.
-use Rattle.model_mutex.specs.Names.{nat_lt, Word, Act, Answer, Event, Then, Patience, After, within, latest_outcome, event, is_failure, failures_in, is_step, keeps_asking, spins_in, stands_at_wait, stands_in, exchanges_in}
-use Rattle.model_mutex.proofs.Names.{◌≡◌, ◌≢◌, ◌∙◌, ℕ, ◌+◌, ◌==◌, refl, Bool, true, false, cond, List, [], ◌∷◌, Some, arith, eqb-true, eqb-false, nat_tests}
+use Rattle.model_mutex.proofs.Names.{◌≡◌, ◌≢◌, ℕ, ◌+◌, ◌==◌, refl, Bool, true, false, cond, List, [], ◌∷◌, Some, arith, eqb-true, eqb-false, nat_tests, nat_lt, Word, Act, Answer, Event, Then, Patience, After, within, latest_outcome, event, is_failure, failures_in, is_step, keeps_asking, spins_in, stands_at_wait, stands_in, exchanges_in, MutexPlace, mutex_after, HasTriedAll}
 use Rattle.model_events.proofs.Spins.{HasSpun, begun_spun}
-use Rattle.model_mutex.specs.declared.MutexPlace.{MutexPlace}
-use Rattle.model_mutex.specs.Table.{mutex_after}
-use Rattle.model_mutex.specs.Law.{HasTriedAll}
 
 -- each exchange failed, and after each the call spun or stood
 pub record HasTriedSo {T : Type 0} (patience : Patience) (own : List (Event T)) : Type 0 where

@@ -1,9 +1,6 @@
 -- What a call has made that brings a closure, at each place of a once, and so that its step there is the next: by its own events alone, so it serves an
 -- object with a once inside too.
-use Rattle.model_once.specs.Names.{Word, Act, Event, Then, event, is_step, is_exchange, last_of}
-use Rattle.model_once.proofs.Names.{◌≡◌, ℕ, ◌==◌, refl, Bool, true, false, cond, List, ◌∷◌, Some, None, ◌⊎◌, inl, inr, arith, eqb-true, eqb-false, nat_tests}
-use Rattle.model_once.specs.declared.OncePlace.{OncePlace}
-use Rattle.model_once.specs.Closures.{has_tried}
+use Rattle.model_once.proofs.Names.{◌≡◌, ℕ, ◌==◌, refl, Bool, true, false, cond, List, ◌∷◌, Some, None, ◌⊎◌, inl, inr, arith, eqb-true, eqb-false, nat_tests, Word, Act, Event, Then, event, is_step, is_exchange, last_of, OncePlace, has_tried}
 
 -- its latest step was a look that saw no 2
 abbrev pub HasLooked : {T : Type 0} → List (Event T) → Type 0

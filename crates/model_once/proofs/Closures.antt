@@ -1,7 +1,5 @@
 -- One closure, at any table whose word is a once's: a closure begins with an exchange of 0 for 1, ends in its own call, and is told by a store of 2.
-use Rattle.model_once.specs.Names.{MatchOption, Word, Act, Event, Intent, Arithmetic, Table, PendingCall, call_of, hold_of, word_in, word_after, stage_of, IsPast, AtLast, last_of, IsTold}
-use Rattle.model_once.proofs.Names.{◌≡◌, ◌≢◌, ℕ, zero, ◌+◌, ◌≤◌, ◌==◌, refl, ◌∙◌, subst, Bool, true, false, cond, List, [], ◌∷◌, Option, Some, None, ◌⊎◌, inl, inr, ◌↔◌, arith, eqb-true, tells_memory, IsCallAfter, call_was, own_among, IsToldOf, own_at_last, at_last_maps, eqb-false, nat_tests}
-use Rattle.model_once.specs.Closures.{is_begin, is_end, begins_in, ends_in, TellsState}
+use Rattle.model_once.proofs.Names.{◌≡◌, ◌≢◌, ℕ, zero, ◌+◌, ◌≤◌, refl, subst, Bool, true, false, cond, List, [], ◌∷◌, Option, Some, None, ◌⊎◌, inl, inr, arith, eqb-true, tells_memory, IsCallAfter, call_was, own_among, IsToldOf, own_at_last, at_last_maps, eqb-false, nat_tests, MatchOption, Word, Act, Event, Intent, Arithmetic, Table, PendingCall, call_of, hold_of, word_in, word_after, stage_of, IsPast, AtLast, last_of, IsTold, is_begin, is_end, begins_in, ends_in, TellsState}
 
 -- the call's closure runs: it has begun, and not ended since
 abbrev pub is_running : {T : Type 0} → List (Event T) → Bool

@@ -1,10 +1,7 @@
 -- A once keeps its law at every prefix of every run.
-use Rattle.model_once.specs.Names.{IfSome, MatchBool, MatchOption, Word, Call, Act, Answer, Event, Then, After, Arithmetic, carried_out, value_told, outcome_of, place_after, same_word, PendingCall, call_of, hold_of, word_in, word_after, event, Move, step_at, is_step, IsPast, AtLast, last_of, StepsAs, Lacks, is_refusal}
-use Rattle.model_once.proofs.Names.{eqb-false, ◌≡◌, ℕ, ◌≤◌, ◌==◌, refl, ◌∙◌, subst, Bool, true, false, cond, List, [], ◌∷◌, Option, Some, None, arith, ◌<◌, eqb-true, some_same, no_holds, exclusive_unheld, by_move, tells_memory, own_among, nat_tests, IsKept, at_place, both_kept, steps_as, Descends, ends_within}
+use Rattle.model_once.proofs.Names.{eqb-false, ◌≡◌, ℕ, ◌≤◌, ◌==◌, refl, subst, Bool, true, false, cond, List, [], ◌∷◌, Option, Some, None, arith, ◌<◌, eqb-true, some_same, no_holds, exclusive_unheld, by_move, tells_memory, own_among, nat_tests, IsKept, at_place, both_kept, steps_as, Descends, ends_within, IfSome, MatchBool, MatchOption, Word, Call, Act, Answer, Event, Then, After, Arithmetic, carried_out, value_told, outcome_of, place_after, same_word, PendingCall, call_of, hold_of, word_in, word_after, event, Move, step_at, is_step, IsPast, AtLast, last_of, StepsAs, Lacks, is_refusal, OncePlace, is_begin, is_end, is_load, begins_in, ends_in}
 use Rattle.model_events.specs.declared.{hold.HoldKind.HoldKind}
-use Rattle.model_once.specs.declared.OncePlace.{OncePlace}
 use Rattle.model_once.specs.Table.{once_table, once_begins, once_intent, once_after}
-use Rattle.model_once.specs.Closures.{is_begin, is_end, is_load, begins_in, ends_in}
 use Rattle.model_once.proofs.ClosureSteps.{IsLed, look_led, stay_led, begin_led, miss_led, quiet_led}
 use Rattle.model_once.specs.Law.{OnceCause, OnceStep, tells_end, is_done, KeepsOnce, once_most}
 use Rattle.model_once.proofs.Closures.{is_running, has_missed, missed_since, IsClosureIntent, RunsOneClosure, IsState, at_most_one, closure_prefix, stays_complete, tells_state, own_began}

@@ -1,11 +1,7 @@
 -- What a call of a reader-preferring lock answers: by the hold that its party has then, and an `Unlock` once it has freed and woken. And with
 -- that the whole of what such a lock keeps.
-use Rattle.model_rw_reader.specs.Names.{Word, Wake, Act, Event, Then, HoldKind, After, Arithmetic, PendingCall, holds_of, hold_of, hold_after, word_in, latest_outcome, acts_of, IsAnswered, AnswersByHold, step_at, IsPast}
-use Rattle.model_rw_reader.proofs.Names.{eqb-false, eqb-true, nat_tests, ◌≡◌, ℕ, List, [], ◌∷◌, Option, Some, None, arith, IsKept, at_place, waits_first, waits_as, spins_no_more, tells_memory}
-use Rattle.model_events.proofs.RwAnswers.{IsTryOn, LeadsTo, answers_by_hold}
-use Rattle.model_rw_reader.specs.declared.RwReaderPlace.{RwReaderPlace}
-use Rattle.model_rw_reader.specs.Table.{rw_reader_table}
-use Rattle.model_rw_reader.specs.Law.{HasUnlocked, steps_in_vain, rw_reader_waiting, KeepsRwReader}
+use Rattle.model_rw_reader.proofs.Names.{eqb-false, eqb-true, nat_tests, ◌≡◌, ℕ, List, [], ◌∷◌, Option, Some, None, arith, IsKept, at_place, waits_first, waits_as, spins_no_more, tells_memory, Word, Wake, Act, Event, Then, HoldKind, After, Arithmetic, PendingCall, holds_of, hold_of, hold_after, word_in, latest_outcome, acts_of, IsAnswered, AnswersByHold, step_at, IsPast, RwReaderPlace, rw_reader_table, HasUnlocked, steps_in_vain, rw_reader_waiting, KeepsRwReader}
+use Rattle.model_events.proofs.RwAnswers.{LeadsTo, answers_by_hold}
 use Rattle.model_rw_reader.proofs.ReaderLocks.{reader_lock_word, reader_lock_exclusive}
 use Rattle.model_rw_reader.proofs.NextSteps.{each_steps, each_ends}
 use Rattle.model_rw_reader.proofs.Laws.{AtRwReader, rw_reader_kept, rw_reader_is_lock, spins_bounded, event_law}
@@ -20,14 +16,6 @@ abbrev IsAnswering : {T : Type 0} → RwReaderPlace → PendingCall T → Option
 IsAnswering place c hold = AtRwReader place c hold × IsLeaving place c.own hold
 
 -- A locking call goes on within itself, or is refused.
-
-abbrev IsEntering : RwReaderPlace → Type 0
-IsEntering RwReaderPlace.Release = ⊥
-IsEntering RwReaderPlace.Wake = ⊥
-IsEntering other = Unit {0}
-
-abbrev TriesOn : {T : Type 0} → After T RwReaderPlace → Type 0
-TriesOn a = IsTryOn IsEntering a
 
 -- What is kept of a call that leaves.
 

@@ -1,9 +1,5 @@
 -- A reader-preferring lock keeps its law at every prefix of every run.
-use Rattle.model_rw_reader.specs.Names.{MatchBool, MatchOption, Word, Call, Act, Answer, Event, Then, HoldKind, Patience, After, Arithmetic, outcome_of, within, refused, same_word, PendingCall, call_of, holds_of, hold_of, word_in, latest_outcome, event, Move, step_at, answer_fault, choose_fault, is_step, IsPast, sight_of, is_sight, keeps_asking, HasAborted, OtherWroteSinceSight, spins_in, WhereAsked, Lacks, is_refusal}
-use Rattle.model_rw_reader.proofs.Names.{◌≡◌, ℕ, ◌+◌, ◌-◌, ◌^◌, ◌<◌, ◌≤◌, ◌==◌, refl, sym, ◌∙◌, subst, Bool, true, false, cond, is_some, List, [], ◌∷◌, Option, Some, None, ◌⊎◌, ◌↔◌, arith, eqb-true, eqb-false, nat_tests, by_move, refused_asks, IsKept, at_place, eqb_same, HasSpun, refused_because, IsLook, kept_or_written}
-use Rattle.model_rw_reader.specs.declared.RwReaderPlace.{RwReaderPlace}
-use Rattle.model_rw_reader.specs.Table.{lets_readers_in, read_look, rw_reader_table}
-use Rattle.model_rw_reader.specs.Law.{CountsHolds, RwReaderCause, is_in_vain, lock_spins, steps_in_vain}
+use Rattle.model_rw_reader.proofs.Names.{◌≡◌, ℕ, ◌+◌, ◌-◌, ◌^◌, ◌<◌, ◌≤◌, ◌==◌, refl, sym, ◌∙◌, subst, Bool, true, false, cond, is_some, List, [], ◌∷◌, Option, Some, None, ◌⊎◌, ◌↔◌, arith, eqb-true, eqb-false, nat_tests, by_move, refused_asks, IsKept, at_place, eqb_same, HasSpun, refused_because, IsLook, kept_or_written, MatchBool, MatchOption, Word, Call, Act, Answer, Event, Then, HoldKind, Patience, After, Arithmetic, outcome_of, within, refused, same_word, PendingCall, call_of, holds_of, hold_of, word_in, latest_outcome, event, Move, step_at, is_step, IsPast, sight_of, is_sight, keeps_asking, HasAborted, OtherWroteSinceSight, spins_in, WhereAsked, Lacks, is_refusal, RwReaderPlace, lets_readers_in, read_look, rw_reader_table, CountsHolds, RwReaderCause, is_in_vain, lock_spins, steps_in_vain}
 use Rattle.model_rw_reader.proofs.ReaderLocks.{IsReaderLock, IsReaderIntent, reader_lock_word, free_exactly, held_at}
 
 -- What is kept of a call at its place.
@@ -30,12 +26,6 @@ abbrev pub read_after : {T : Type 0} → Patience → ℕ → Bool → After T R
 read_after patience v b = cond b (After.At (RwReaderPlace.Read v (v + 1) patience)) (within RwReaderPlace.ReadLook (refused patience v))
 
 -- Where an answer leads.
-
-pub asked_nothing : {T : Type 0} (own : List (Event T)) → latest_outcome own ≡ Then.GoesOn → answer_fault (latest_outcome own) ≡ None → ⊥
-asked_nothing {T} own goes waits = let no : answer_fault {T = T} Then.GoesOn ≡ None = subst (λ (o : Then T). answer_fault o ≡ None) goes waits in absurd cc
-
-pub offered_nothing : {T : Type 0} (own : List (Event T)) → latest_outcome own ≡ Then.GoesOn → choose_fault (latest_outcome own) ≡ None → ⊥
-offered_nothing {T} own goes stands = let no : choose_fault {T = T} Then.GoesOn ≡ None = subst (λ (o : Then T). choose_fault o ≡ None) goes stands in absurd cc
 
 pub rw_reader_kept : {T : Type 0} → IsKept {T = T} rw_reader_table AtRwReader
 rw_reader_kept = grind (arith, nat_tests, eqb-true, eqb-false)

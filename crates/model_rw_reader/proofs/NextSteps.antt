@@ -1,10 +1,6 @@
 -- Each step of a reader-preferring lock is its call's next.
-use Rattle.model_rw_reader.specs.Names.{WaitAction, Word, Call, Event, HoldKind, Arithmetic, place_after, PendingCall, step_at, is_step, IsPast, last_of, StepsAs, seen_last, EndsWithin, open_at}
-use Rattle.model_rw_reader.proofs.Names.{eqb-false, eqb-true, nat_tests, ◌≡◌, ℕ, refl, true, is_some, List, Option, Some, None, ◌≤◌, ◌<◌, arith, both_kept, IsKept}
+use Rattle.model_rw_reader.proofs.Names.{eqb-false, eqb-true, nat_tests, ◌≡◌, ℕ, refl, true, is_some, List, Option, Some, None, ◌≤◌, ◌<◌, arith, both_kept, IsKept, WaitAction, Word, Call, Event, HoldKind, Arithmetic, place_after, PendingCall, step_at, is_step, IsPast, last_of, StepsAs, seen_last, EndsWithin, open_at, RwReaderPlace, lets_readers_in, rw_reader_table, rw_reader_begins, rw_reader_after, rw_reader_answered, rw_reader_most, RwReaderStep}
 use Rattle.model_events.proofs.NextStep.{steps_as, Descends, ends_within}
-use Rattle.model_rw_reader.specs.declared.RwReaderPlace.{RwReaderPlace}
-use Rattle.model_rw_reader.specs.Table.{lets_readers_in, rw_reader_table, rw_reader_begins, rw_reader_after, rw_reader_answered}
-use Rattle.model_rw_reader.specs.Law.{rw_reader_most, RwReaderStep}
 use Rattle.model_rw_reader.proofs.Laws.{AtRwReader, rw_reader_kept}
 
 -- What the latest step of a call told, at each place.

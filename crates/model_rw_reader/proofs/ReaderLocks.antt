@@ -1,7 +1,5 @@
 -- A lock of many readers or one writer: an object whose word counts read holds, and is 2^64 - 1 with the write hold.
-use Rattle.model_rw_reader.specs.Names.{Word, Act, Event, HoldKind, Intent, Arithmetic, carried_out, Table, Hold, PendingCall, call_of, holds_of, hold_of, hold_among, word_in, word_after, without, reads_in, writes_in, Move, stage_of, IsPast, IsExclusive}
-use Rattle.model_rw_reader.proofs.Names.{◌≡◌, ◌≢◌, ℕ, ◌+◌, ◌-◌, ◌%◌, ◌^◌, ◌<◌, ◌≤◌, ◌==◌, refl, sym, ◌∙◌, ap, subst, Bool, cond, is_some, length, List, [], ◌∷◌, Option, Some, None, ◌⊎◌, inl, inr, ◌↔◌, arith, eqb-true, by_move, eqb-false, nat_tests, IsOneEach, without_one_each, without_counts, counted_of, both_kinds, unwritten_exclusive, written_exclusive, holds_after, without_only}
-use Rattle.model_rw_reader.specs.Law.{CountsHolds}
+use Rattle.model_rw_reader.proofs.Names.{◌≡◌, ◌≢◌, ℕ, ◌+◌, ◌-◌, ◌%◌, ◌^◌, ◌<◌, ◌==◌, refl, sym, ap, subst, Bool, cond, is_some, length, List, [], ◌∷◌, Option, Some, None, ◌⊎◌, inl, inr, ◌↔◌, arith, eqb-true, by_move, eqb-false, nat_tests, IsOneEach, without_one_each, without_counts, counted_of, both_kinds, unwritten_exclusive, written_exclusive, holds_after, without_only, Word, Act, Event, HoldKind, Intent, Arithmetic, carried_out, Table, Hold, PendingCall, call_of, holds_of, hold_of, hold_among, word_in, word_after, without, reads_in, writes_in, Move, stage_of, IsPast, IsExclusive, CountsHolds}
 
 -- what a step of such an object may do to the lock's word: enter as a reader or as the writer, as far as its call grants that hold and its party has none; leave, by its party's hold
 abbrev pub IsReaderIntent : {T : Type 0} → (ℕ → ℕ → Option HoldKind) → Option HoldKind → Intent T → Type 0
@@ -95,7 +93,3 @@ reader_lock_exclusive w holds (inr written) = subst IsExclusive (sym written.alo
 -- where the word is not 0 some hold stands
 pub held_at : (w : ℕ) (holds : List Hold) → CountsHolds w holds → w ≢ 0 → 0 < length holds
 held_at w holds h1 h2 = grind (arith, nat_tests, eqb-true, eqb-false, both_kinds)
-
--- where no reader may enter a write hold stands, or as many read holds as there may be
-pub shut_at : (w : ℕ) (holds : List Hold) → CountsHolds w holds → 2 ^ 64 - 2 ≤ w → (0 < writes_in holds) ⊎ (reads_in holds ≡ 2 ^ 64 - 2)
-shut_at w holds h1 h2 = grind (arith, nat_tests, eqb-true, eqb-false)

@@ -1,10 +1,5 @@
 -- What a call of a writer-preferring lock answers: by the hold that its party has then, and an `Unlock` once it has freed, counted and woken.
-use Rattle.model_rw_writer.specs.Names.{WaitAction, Word, Wake, Call, Act, Event, Then, HoldKind, After, Arithmetic, carried_out, value_told, PendingCall, hold_of, hold_after, word_in, latest_outcome, event, acts_of, IsAnswered, AnswersByHold, step_at, answer_fault, choose_fault, IsPast}
-use Rattle.model_rw_writer.proofs.Names.{nat_tests, ◌≡◌, ℕ, ◌+◌, ◌-◌, ◌%◌, ◌^◌, List, [], ◌∷◌, Option, Some, None, arith, eqb-true, eqb-false, LeadsTo, leads_on, answers_by_hold, IsKept, at_place}
-use Rattle.model_rw_writer.specs.declared.Leaver.{Leaver}
-use Rattle.model_rw_writer.specs.declared.RwWriterPlace.{RwWriterPlace}
-use Rattle.model_rw_writer.specs.Table.{rw_writer_table, rw_writer_begins, rw_writer_answered}
-use Rattle.model_rw_writer.specs.Law.{HasUnlocked}
+use Rattle.model_rw_writer.proofs.Names.{nat_tests, ◌≡◌, ℕ, ◌+◌, ◌-◌, ◌%◌, ◌^◌, List, [], ◌∷◌, Option, Some, None, arith, eqb-true, eqb-false, LeadsTo, leads_on, answers_by_hold, IsKept, at_place, WaitAction, Word, Wake, Call, Act, Event, Then, HoldKind, After, Arithmetic, carried_out, value_told, PendingCall, hold_of, hold_after, word_in, latest_outcome, event, acts_of, IsAnswered, AnswersByHold, step_at, answer_fault, choose_fault, IsPast, Leaver, RwWriterPlace, rw_writer_table, rw_writer_begins, rw_writer_answered, HasUnlocked}
 use Rattle.model_rw_writer.proofs.PlaceLaws.{AtRwWriter, rw_writer_kept}
 
 -- What a call that leaves has done, newest first.

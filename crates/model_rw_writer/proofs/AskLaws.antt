@@ -1,10 +1,5 @@
 -- No call of a writer-preferring lock spins more than 10000 times.
-use Rattle.model_rw_writer.specs.Names.{Call, Event, HoldKind, Arithmetic, PendingCall, IsPast, SpinsNoMore}
-use Rattle.model_rw_writer.proofs.Names.{◌≡◌, ℕ, ◌≤◌, sym, subst, true, false, List, [], ◌∷◌, Option, arith, spins_no_more, last_try_bounded, both_kept, eqb-true, eqb-false, nat_tests}
-use Rattle.model_rw_writer.specs.declared.Leaver.{Leaver}
-use Rattle.model_rw_writer.specs.declared.RwWriterPlace.{RwWriterPlace}
-use Rattle.model_rw_writer.specs.Table.{rw_writer_table}
-use Rattle.model_rw_writer.specs.Law.{write_spins_in, spins_on}
+use Rattle.model_rw_writer.proofs.Names.{◌≡◌, ℕ, ◌≤◌, sym, subst, true, false, List, [], ◌∷◌, Option, arith, spins_no_more, last_try_bounded, both_kept, eqb-true, eqb-false, nat_tests, Call, Event, HoldKind, Arithmetic, PendingCall, IsPast, SpinsNoMore, Leaver, RwWriterPlace, rw_writer_table, write_spins_in, spins_on}
 use Rattle.model_rw_writer.proofs.PlaceLaws.{AtRwWriter, IsLeaver, rw_writer_kept}
 use Rattle.model_rw_writer.proofs.SpinLaws.{GivesUp, Leaves, HasSpunAt, spun_kept}
 

@@ -1,11 +1,5 @@
 -- Each refusal of a writer-preferring lock has its cause, and a `TryWriteLock` is granted exactly where it may be.
-use Rattle.model_rw_writer.specs.Names.{MatchBool, MatchOption, not, Word, Call, Act, Answer, Event, Then, HoldKind, Patience, After, Arithmetic, carried_out, value_told, outcome_of, PendingCall, call_of, call_after, Hold, holds_of, hold_of, word_in, event, is_failure, Move, step_at, IsPast, is_sight, is_beginning, keeps_asking, HasAborted, OtherWroteSinceSight, AtLastSight, is_refusal, IsLocked}
-use Rattle.model_rw_writer.proofs.Names.{◌≡◌, ◌≢◌, ℕ, ◌-◌, ◌^◌, ◌<◌, ◌≤◌, ◌==◌, refl, sym, ◌∙◌, ap, subst, Bool, true, false, cond, ◌&&◌, length, List, [], ◌∷◌, Option, Some, None, ◌⊎◌, inl, inr, ◌↔◌, arith, eqb-true, eqb-false, false≢true, nat_tests, eqb_same, both_kinds, by_move, tells_memory, kept_or_written, longer, at_last_sight, waits_first, waits_as}
-use Rattle.model_rw_writer.specs.declared.Leaver.{Leaver}
-use Rattle.model_rw_writer.specs.declared.RwWriterPlace.{RwWriterPlace}
-use Rattle.model_rw_writer.specs.Table.{is_marked, is_blocked, try_read_look, read_look, spins, marks_or_spins, unmarks_or_leaves, write_refused, write_look, last_look, released, woken_one, woken_all, rw_writer_table}
-use Rattle.model_rw_writer.specs.Marks.{is_marked_after}
-use Rattle.model_rw_writer.specs.Law.{CountsHolds, HasMissedAfterAbort, RwWriterCause, IsExactGrant, rw_writer_waiting, KeepsRwWriter}
+use Rattle.model_rw_writer.proofs.Names.{◌≡◌, ◌≢◌, ℕ, ◌-◌, ◌^◌, ◌<◌, ◌≤◌, ◌==◌, refl, sym, ◌∙◌, ap, subst, Bool, true, false, cond, ◌&&◌, length, List, [], ◌∷◌, Option, Some, None, ◌⊎◌, inl, inr, ◌↔◌, arith, eqb-true, eqb-false, false≢true, nat_tests, eqb_same, both_kinds, by_move, tells_memory, kept_or_written, longer, at_last_sight, waits_first, waits_as, MatchBool, MatchOption, not, Word, Call, Act, Answer, Event, Then, HoldKind, Patience, After, Arithmetic, carried_out, value_told, outcome_of, PendingCall, call_of, call_after, Hold, holds_of, hold_of, word_in, event, is_failure, Move, step_at, IsPast, is_sight, is_beginning, keeps_asking, HasAborted, OtherWroteSinceSight, AtLastSight, is_refusal, IsLocked, Leaver, RwWriterPlace, is_marked, is_blocked, try_read_look, read_look, spins, marks_or_spins, unmarks_or_leaves, write_refused, write_look, last_look, released, woken_one, woken_all, rw_writer_table, is_marked_after, CountsHolds, HasMissedAfterAbort, RwWriterCause, IsExactGrant, rw_writer_waiting, KeepsRwWriter}
 use Rattle.model_rw_writer.proofs.WordLaws.{held_by_none, writer_lock_exclusive}
 use Rattle.model_rw_writer.proofs.StageLaws.{same_call}
 use Rattle.model_rw_writer.proofs.PlaceLaws.{AtRwWriter, Asks, MayGiveUp, failed_after_abort, IsLeaver, held_above, here}

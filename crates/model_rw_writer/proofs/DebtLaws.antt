@@ -1,12 +1,5 @@
 -- No count is lost: whoever unblocks the lock owes a counter step until it has made it.
-use Rattle.model_rw_writer.specs.Names.{not, WaitAction, Word, Call, Act, Event, Input, Then, HoldKind, Patience, After, Arithmetic, carried_out, value_told, outcome_of, place_after, PendingCall, call_of, call_after, call_going_on, Hold, holds_of, hold_of, word_in, word_after, event, latest_outcome, is_beginning, acts_in, is_step, Move, step_at, stage_of, next_stage, IsPast}
-use Rattle.model_rw_writer.proofs.Names.{◌≡◌, ◌≢◌, ℕ, ◌+◌, ◌%◌, ◌^◌, ◌<◌, ◌==◌, refl, sym, ◌∙◌, ap, subst, Bool, true, false, cond, ◌&&◌, ◌||◌, List, [], ◌∷◌, Option, Some, ◌⊎◌, inl, inr, arith, eqb-true, eqb-false, eq-eqb, nat_tests, eqb_tells, call_of_same, call_of_other, by_move, carried_goes_on, carried_stage, fault_at_none, longer}
-use Rattle.model_rw_writer.specs.declared.Leaver.{Leaver}
-use Rattle.model_rw_writer.specs.declared.RwWriterPlace.{RwWriterPlace}
-use Rattle.model_rw_writer.specs.Table.{is_blocked, rw_writer_table, rw_writer_answered}
-use Rattle.model_rw_writer.specs.Marks.{is_marked_after}
-use Rattle.model_rw_writer.specs.Law.{CountsHolds}
-use Rattle.model_rw_writer.specs.Debts.{blocks, is_blocked_after, is_answer, adds_count, owes_count, loads_count, counts_since_load, StandsWith, NoCountIsLost, PaysNext, CounterCountsAdds}
+use Rattle.model_rw_writer.proofs.Names.{◌≡◌, ◌≢◌, ℕ, ◌+◌, ◌%◌, ◌^◌, ◌<◌, ◌==◌, refl, sym, ◌∙◌, ap, subst, Bool, true, false, cond, ◌&&◌, ◌||◌, List, [], ◌∷◌, Option, Some, ◌⊎◌, inl, inr, arith, eqb-true, eqb-false, eq-eqb, nat_tests, eqb_tells, call_of_same, call_of_other, by_move, carried_goes_on, carried_stage, fault_at_none, longer, not, WaitAction, Word, Call, Act, Event, Input, Then, HoldKind, Patience, After, Arithmetic, carried_out, value_told, outcome_of, place_after, PendingCall, call_of, call_after, call_going_on, Hold, holds_of, hold_of, word_in, word_after, event, latest_outcome, is_beginning, acts_in, is_step, Move, step_at, stage_of, next_stage, IsPast, Leaver, RwWriterPlace, is_blocked, rw_writer_table, rw_writer_answered, is_marked_after, CountsHolds, blocks, is_blocked_after, is_answer, adds_count, owes_count, loads_count, counts_since_load, StandsWith, NoCountIsLost, PaysNext, CounterCountsAdds}
 use Rattle.model_rw_writer.proofs.BoolLaws.{clash, neither}
 use Rattle.model_rw_writer.proofs.LookLaws.{HoldsOn}
 use Rattle.model_rw_writer.proofs.PlaceLaws.{AtRwWriter, here}

@@ -1,10 +1,5 @@
 -- A writer-preferring lock keeps its law at every prefix of every run.
-use Rattle.model_rw_writer.specs.Names.{MatchOption, WaitAction, Word, Call, Act, Event, HoldKind, After, Arithmetic, carried_out, value_told, place_after, same_word, PendingCall, call_of, call_after, Hold, holds_of, hold_of, word_in, word_after, event, Move, step_at, stage_of, IsPast, Lacks}
-use Rattle.model_rw_writer.proofs.Names.{eqb-false, eqb-true, nat_tests, ◌≡◌, ◌≢◌, ℕ, ◌==◌, refl, sym, ◌∙◌, ap, subst, Bool, true, false, cond, is_some, List, [], ◌∷◌, Option, Some, None, ◌⊎◌, inl, inr, arith, eqb_tells, call_of_same, call_of_other, holds_after, by_move, fault_at_none}
-use Rattle.model_rw_writer.specs.declared.RwWriterPlace.{RwWriterPlace}
-use Rattle.model_rw_writer.specs.Table.{is_marked, is_mark, rw_writer_table, rw_writer_answered}
-use Rattle.model_rw_writer.specs.Marks.{is_writing, setter_after, setter_of, sets_mark, has_marked}
-use Rattle.model_rw_writer.specs.Law.{CountsHolds, IsSetter, SetterIsUnderWay}
+use Rattle.model_rw_writer.proofs.Names.{eqb-false, eqb-true, nat_tests, ◌≡◌, ◌≢◌, ℕ, ◌==◌, refl, sym, ◌∙◌, ap, subst, Bool, true, false, cond, is_some, List, [], ◌∷◌, Option, Some, None, ◌⊎◌, inl, inr, arith, eqb_tells, call_of_same, call_of_other, holds_after, by_move, fault_at_none, MatchOption, WaitAction, Word, Call, Act, Event, HoldKind, After, Arithmetic, carried_out, value_told, place_after, same_word, PendingCall, call_of, call_after, Hold, holds_of, hold_of, word_in, word_after, event, Move, step_at, stage_of, IsPast, Lacks, RwWriterPlace, is_marked, is_mark, rw_writer_table, rw_writer_answered, is_writing, setter_after, setter_of, sets_mark, has_marked, CountsHolds, IsSetter, SetterIsUnderWay}
 use Rattle.model_rw_writer.proofs.WordLaws.{IsKeptWord, Keeps, nobody, unchanged, step_keeps}
 use Rattle.model_rw_writer.proofs.StageLaws.{IsAt, fact_here, begins_none, answered_at, chosen_at, stepped_at}
 use Rattle.model_rw_writer.proofs.PlaceLaws.{AtRwWriter, writer_intent, here}

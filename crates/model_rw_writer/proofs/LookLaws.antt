@@ -1,8 +1,5 @@
 -- Where a writer goes on after a look: what holds of each place there, and of giving up, holds wherever the look leads.
-use Rattle.model_rw_writer.specs.Names.{nat_lt, Answer, Patience, After}
-use Rattle.model_rw_writer.proofs.Names.{ℕ, ◌+◌, ◌-◌}
-use Rattle.model_rw_writer.specs.declared.RwWriterPlace.{RwWriterPlace}
-use Rattle.model_rw_writer.specs.Table.{lets_writer_in, lets_mark, is_marked, is_blocked, spins, marks_or_spins, unmarks_or_leaves, write_refused, write_look, last_look}
+use Rattle.model_rw_writer.proofs.Names.{ℕ, ◌+◌, ◌-◌, nat_lt, Answer, Patience, After, RwWriterPlace, lets_writer_in, lets_mark, is_marked, is_blocked, spins, marks_or_spins, unmarks_or_leaves, write_refused, write_look, last_look}
 use Rattle.model_rw_writer.proofs.BoolLaws.{either}
 
 pub record HoldsOn {T : Type 0} (Holds : After T RwWriterPlace → Type 0) : Type 0 where

@@ -1,10 +1,5 @@
 -- A writer stands only where the lock is blocked.
-use Rattle.model_rw_writer.specs.Names.{MatchBool, MatchOption, Word, Call, Act, Event, HoldKind, After, Arithmetic, value_told, outcome_of, PendingCall, call_of, hold_of, word_in, Move, step_at, stage_of, IsPast, is_sight, stands_at_wait}
-use Rattle.model_rw_writer.proofs.Names.{eqb-false, eqb-true, nat_tests, ◌≡◌, ℕ, refl, ◌∙◌, Bool, true, false, List, ◌∷◌, Option, Some, ◌⊎◌, arith, by_move}
-use Rattle.model_rw_writer.specs.declared.RwWriterPlace.{RwWriterPlace}
-use Rattle.model_rw_writer.specs.Table.{is_blocked, rw_writer_table}
-use Rattle.model_rw_writer.specs.Debts.{is_blocked_after}
-use Rattle.model_rw_writer.specs.Law.{StandsWhereBlocked}
+use Rattle.model_rw_writer.proofs.Names.{eqb-false, eqb-true, nat_tests, ◌≡◌, ℕ, refl, ◌∙◌, Bool, true, false, List, ◌∷◌, Option, Some, ◌⊎◌, arith, by_move, MatchBool, MatchOption, Word, Call, Act, Event, HoldKind, After, Arithmetic, value_told, outcome_of, PendingCall, call_of, hold_of, word_in, Move, step_at, stage_of, IsPast, is_sight, stands_at_wait, RwWriterPlace, is_blocked, rw_writer_table, is_blocked_after, StandsWhereBlocked}
 use Rattle.model_rw_writer.proofs.PlaceLaws.{here}
 use Rattle.model_rw_writer.proofs.DebtLaws.{IsPlain, LoadsCount, StandsNow, write_step, blocked_at}
 

@@ -1,12 +1,6 @@
 -- Each step of a writer-preferring lock is its call's next.
-use Rattle.model_rw_writer.specs.Names.{WaitAction, Word, Wake, Call, Act, Answer, Event, Then, HoldKind, Patience, After, Arithmetic, carried_out, value_told, outcome_of, place_after, within, refused, PendingCall, event, latest_outcome, step_at, answer_fault, choose_fault, is_step, IsPast, is_abort, keeps_asking, last_of, StepsAs, EndsWithin, step_before, seen_last, Loads, Exchanges, open_at, WritesIn}
-use Rattle.model_rw_writer.proofs.Names.{eqb-false, eqb-true, nat_tests, ◌≡◌, ℕ, ◌+◌, ◌-◌, ◌%◌, ◌^◌, ◌==◌, refl, sym, ◌∙◌, subst, Bool, true, false, cond, List, [], ◌∷◌, Option, Some, None, arith, ◌≤◌, ◌<◌, some_same, eqb_other, both_kept, IsKept}
+use Rattle.model_rw_writer.proofs.Names.{eqb-false, eqb-true, nat_tests, ◌≡◌, ℕ, ◌+◌, ◌-◌, ◌%◌, ◌^◌, ◌==◌, refl, sym, ◌∙◌, subst, Bool, true, false, cond, List, [], ◌∷◌, Option, Some, None, arith, ◌≤◌, ◌<◌, some_same, eqb_other, both_kept, IsKept, WaitAction, Word, Wake, Call, Act, Answer, Event, Then, HoldKind, Patience, After, Arithmetic, carried_out, value_told, outcome_of, place_after, within, refused, PendingCall, event, latest_outcome, step_at, answer_fault, choose_fault, is_step, IsPast, is_abort, keeps_asking, last_of, StepsAs, EndsWithin, step_before, seen_last, Loads, Exchanges, open_at, WritesIn, Leaver, RwWriterPlace, lets_readers_in, is_mark, read_look, spins, unmarks_or_leaves, write_refused, write_look, last_look, released, rw_writer_table, rw_writer_begins, rw_writer_after, rw_writer_answered, loads_count, write_spins_in, left_unmarking, left_refused, left_looking, left_last, goes_on_anyway, LooksToWrite, LookedAt, CountsOne, ExchangedFrom, WriterStep, rw_writer_most, RwWriterStep}
 use Rattle.model_events.proofs.NextStep.{steps_as, Descends, ends_within}
-use Rattle.model_rw_writer.specs.declared.Leaver.{Leaver}
-use Rattle.model_rw_writer.specs.declared.RwWriterPlace.{RwWriterPlace}
-use Rattle.model_rw_writer.specs.Table.{lets_readers_in, is_mark, read_look, spins, unmarks_or_leaves, write_refused, write_look, last_look, released, rw_writer_table, rw_writer_begins, rw_writer_after, rw_writer_answered}
-use Rattle.model_rw_writer.specs.Debts.{loads_count}
-use Rattle.model_rw_writer.specs.Law.{write_spins_in, left_unmarking, left_refused, left_looking, left_last, goes_on_anyway, LooksToWrite, LookedAt, CountsOne, ExchangedFrom, WriterStep, rw_writer_most, RwWriterStep}
 use Rattle.model_rw_writer.proofs.WordLaws.{no_mark}
 use Rattle.model_rw_writer.proofs.BoolLaws.{either}
 use Rattle.model_rw_writer.proofs.LookLaws.{HoldsOn, of_spins, of_unmarks, of_refused, of_look, of_last_look}

@@ -1,9 +1,5 @@
 -- What is kept of a call at each place of a writer-preferring lock.
-use Rattle.model_rw_writer.specs.Names.{not, WaitAction, Word, Call, Act, Event, Then, HoldKind, Patience, After, Arithmetic, carried_out, value_told, PendingCall, call_of, hold_of, hold_after, latest_outcome, event, is_failure, step_at, hold_fault, answer_fault, choose_fault, stage_of, IsPast, sight_of, is_sight, is_write, is_abort, keeps_asking}
-use Rattle.model_rw_writer.proofs.Names.{◌≡◌, ◌≢◌, ℕ, ◌+◌, ◌-◌, ◌%◌, ◌^◌, ◌<◌, ◌≤◌, ◌==◌, refl, ◌∙◌, ap, Bool, true, false, cond, is_some, ◌&&◌, List, [], ◌∷◌, Option, Some, None, ◌⊎◌, inl, inr, arith, eqb-true, eqb-false, nat_tests, answered_keep, IsLook, LastSaw, IsKept, at_place, OwnLeadsTo, leads_on}
-use Rattle.model_rw_writer.specs.declared.Leaver.{Leaver}
-use Rattle.model_rw_writer.specs.declared.RwWriterPlace.{RwWriterPlace}
-use Rattle.model_rw_writer.specs.Table.{lets_writer_in, unmarks_or_leaves, rw_writer_table, rw_writer_begins, rw_writer_answered, rw_writer_grant}
+use Rattle.model_rw_writer.proofs.Names.{◌≡◌, ◌≢◌, ℕ, ◌+◌, ◌-◌, ◌%◌, ◌^◌, ◌<◌, ◌≤◌, ◌==◌, refl, ◌∙◌, ap, Bool, true, false, cond, is_some, ◌&&◌, List, [], ◌∷◌, Option, Some, None, ◌⊎◌, inl, inr, arith, eqb-true, eqb-false, nat_tests, answered_keep, IsLook, LastSaw, IsKept, at_place, OwnLeadsTo, leads_on, not, WaitAction, Word, Call, Act, Event, Then, HoldKind, Patience, After, Arithmetic, carried_out, value_told, PendingCall, call_of, hold_of, hold_after, latest_outcome, event, is_failure, step_at, hold_fault, answer_fault, choose_fault, stage_of, IsPast, sight_of, is_sight, is_write, is_abort, keeps_asking, Leaver, RwWriterPlace, lets_writer_in, unmarks_or_leaves, rw_writer_table, rw_writer_begins, rw_writer_answered, rw_writer_grant}
 use Rattle.model_rw_writer.proofs.WordLaws.{IsWriterIntent, is_marking}
 
 -- the call has asked its closure as the patience says

@@ -1,11 +1,5 @@
 -- How often a call of a writer-preferring lock has spun, at each of its places.
-use Rattle.model_rw_writer.specs.Names.{WaitAction, Word, Call, Act, Event, Then, HoldKind, Patience, After, Arithmetic, carried_out, value_told, outcome_of, place_after, PendingCall, call_of, hold_of, word_in, latest_outcome, event, Move, step_at, hold_fault, answer_fault, choose_fault, stage_of, IsPast, keeps_asking, last_of, WhereAsked}
-use Rattle.model_rw_writer.proofs.Names.{eqb-false, eqb-true, nat_tests, ◌≡◌, ℕ, ◌-◌, ◌^◌, ◌≤◌, Bool, true, false, List, [], ◌∷◌, Option, Some, None, arith, HasSpun, by_move, IsKept, at_place}
-use Rattle.model_rw_writer.specs.declared.Leaver.{Leaver}
-use Rattle.model_rw_writer.specs.declared.RwWriterPlace.{RwWriterPlace}
-use Rattle.model_rw_writer.specs.Table.{is_mark, rw_writer_table, rw_writer_begins, rw_writer_answered}
-use Rattle.model_rw_writer.specs.Debts.{loads_count}
-use Rattle.model_rw_writer.specs.Law.{is_read_in_vain, write_spins_in, spins_of, told_by}
+use Rattle.model_rw_writer.proofs.Names.{eqb-false, eqb-true, nat_tests, ◌≡◌, ℕ, ◌-◌, ◌^◌, ◌≤◌, Bool, true, false, List, [], ◌∷◌, Option, Some, None, arith, HasSpun, by_move, IsKept, at_place, WaitAction, Word, Call, Act, Event, Then, HoldKind, Patience, After, Arithmetic, carried_out, value_told, outcome_of, place_after, PendingCall, call_of, hold_of, word_in, latest_outcome, event, Move, step_at, hold_fault, answer_fault, choose_fault, stage_of, IsPast, keeps_asking, last_of, WhereAsked, Leaver, RwWriterPlace, is_mark, rw_writer_table, rw_writer_begins, rw_writer_answered, loads_count, is_read_in_vain, write_spins_in, spins_of, told_by}
 use Rattle.model_rw_writer.proofs.PlaceLaws.{Clears, grown}
 
 -- What is kept of a call's spins at its place.

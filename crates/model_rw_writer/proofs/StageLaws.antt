@@ -1,8 +1,5 @@
 -- A fact of the place where a call under way is, and of its own events: that the next event of the call leads on to such a place.
-use Rattle.model_rw_writer.specs.Names.{WaitAction, Act, Call, Event, Input, Then, Word, HoldKind, After, carried_out, value_told, outcome_of, place_after, PendingCall, call_after, call_going_on, event, step_at, stage_of, next_stage, fault_at}
-use Rattle.model_rw_writer.proofs.Names.{eqb-false, eqb-true, nat_tests, ◌≡◌, refl, ◌∙◌, ap, ℕ, List, ◌∷◌, Option, Some, None, arith, carried_goes_on, carried_stage}
-use Rattle.model_rw_writer.specs.declared.RwWriterPlace.{RwWriterPlace}
-use Rattle.model_rw_writer.specs.Table.{rw_writer_table, rw_writer_answered}
+use Rattle.model_rw_writer.proofs.Names.{eqb-false, eqb-true, nat_tests, ◌≡◌, refl, ◌∙◌, ap, ℕ, List, ◌∷◌, Option, Some, None, arith, carried_goes_on, carried_stage, WaitAction, Act, Call, Event, Input, Then, Word, HoldKind, After, carried_out, value_told, outcome_of, place_after, PendingCall, call_after, call_going_on, event, step_at, stage_of, next_stage, fault_at, RwWriterPlace, rw_writer_table, rw_writer_answered}
 
 pub same_call : {T : Type 0} (c d : PendingCall T) → Some c ≡ Some d → c ≡ d
 same_call c d is = cc

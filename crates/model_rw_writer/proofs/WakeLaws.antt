@@ -1,12 +1,5 @@
 -- Readers are woken: whoever makes the word even owes a wake of all until it has called it.
-use Rattle.model_rw_writer.specs.Names.{nat_lt, not, WaitAction, Word, Call, Act, Event, Input, Then, HoldKind, After, Arithmetic, carried_out, value_told, outcome_of, place_after, PendingCall, call_of, call_after, call_going_on, Hold, holds_of, hold_of, word_in, word_after, event, latest_outcome, writes_in, is_beginning, Move, step_at, stage_of, IsPast}
-use Rattle.model_rw_writer.proofs.Names.{eqb-false, nat_tests, ◌≡◌, ◌≢◌, ℕ, ◌==◌, refl, sym, ◌∙◌, ap, subst, Bool, true, false, cond, ◌&&◌, ◌||◌, List, [], ◌∷◌, Option, Some, None, ◌⊎◌, inl, inr, arith, eqb-true, eq-eqb, eqb_tells, call_of_same, call_of_other, by_move, fault_at_none, longer}
-use Rattle.model_rw_writer.specs.declared.Leaver.{Leaver}
-use Rattle.model_rw_writer.specs.declared.RwWriterPlace.{RwWriterPlace}
-use Rattle.model_rw_writer.specs.Table.{is_odd, rw_writer_table, rw_writer_answered}
-use Rattle.model_rw_writer.specs.Marks.{is_marked_after}
-use Rattle.model_rw_writer.specs.Law.{CountsHolds}
-use Rattle.model_rw_writer.specs.Debts.{is_answer, is_even_after, makes_even, wakes_all, owes_wake, Evener, evener_after, evener_of, ReaderStands, ReadersAreWoken}
+use Rattle.model_rw_writer.proofs.Names.{eqb-false, nat_tests, ◌≡◌, ◌≢◌, ℕ, ◌==◌, refl, sym, ◌∙◌, ap, subst, Bool, true, false, cond, ◌&&◌, ◌||◌, List, [], ◌∷◌, Option, Some, None, ◌⊎◌, inl, inr, arith, eqb-true, eq-eqb, eqb_tells, call_of_same, call_of_other, by_move, fault_at_none, longer, nat_lt, not, WaitAction, Word, Call, Act, Event, Input, Then, HoldKind, After, Arithmetic, carried_out, value_told, outcome_of, place_after, PendingCall, call_of, call_after, call_going_on, Hold, holds_of, hold_of, word_in, word_after, event, latest_outcome, writes_in, is_beginning, Move, step_at, stage_of, IsPast, Leaver, RwWriterPlace, is_odd, rw_writer_table, rw_writer_answered, is_marked_after, CountsHolds, is_answer, is_even_after, makes_even, wakes_all, owes_wake, Evener, evener_after, evener_of, ReaderStands, ReadersAreWoken}
 use Rattle.model_rw_writer.proofs.BoolLaws.{clash, neither}
 use Rattle.model_rw_writer.proofs.PlaceLaws.{AtRwWriter, here}
 use Rattle.model_rw_writer.proofs.StageLaws.{same_call, IsAt, fact_here, begins_none, answered_at, chosen_at, stepped_at}

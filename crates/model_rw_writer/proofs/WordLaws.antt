@@ -1,9 +1,5 @@
 -- What each step of a writer-preferring lock does to its word, its holds and its mark.
-use Rattle.model_rw_writer.specs.Names.{Word, Call, Act, HoldKind, Intent, carried_out, Hold, PendingCall, hold_among, word_after, without, reads_in, writes_in, IsExclusive}
-use Rattle.model_rw_writer.proofs.Names.{eqb-false, nat_tests, ◌≡◌, ◌≢◌, ℕ, ◌+◌, ◌*◌, ◌-◌, ◌%◌, ◌^◌, ◌<◌, ◌≤◌, ◌==◌, refl, sym, ◌∙◌, subst, Bool, true, false, cond, is_some, List, [], ◌∷◌, Option, Some, None, ◌⊎◌, inl, inr, arith, eqb-true, eqb_other, IsOneEach, without_one_each, without_counts, counted_of, both_kinds, unwritten_exclusive, written_exclusive, holds_after, without_only}
-use Rattle.model_rw_writer.specs.Table.{is_mark, rw_writer_grant, rw_writer_table}
-use Rattle.model_rw_writer.specs.Marks.{is_writing, setter_after}
-use Rattle.model_rw_writer.specs.Law.{CountsHolds}
+use Rattle.model_rw_writer.proofs.Names.{eqb-false, nat_tests, ◌≡◌, ◌≢◌, ℕ, ◌+◌, ◌-◌, ◌%◌, ◌^◌, ◌<◌, ◌==◌, refl, sym, subst, Bool, true, false, cond, is_some, List, [], ◌∷◌, Option, Some, None, ◌⊎◌, inl, inr, arith, eqb-true, eqb_other, IsOneEach, without_one_each, without_counts, counted_of, both_kinds, unwritten_exclusive, written_exclusive, holds_after, without_only, Word, Call, Act, HoldKind, Intent, carried_out, Hold, PendingCall, hold_among, word_after, without, reads_in, writes_in, IsExclusive, is_mark, rw_writer_grant, rw_writer_table, is_writing, setter_after, CountsHolds}
 
 -- What an exchange of the word may be: a reader enters, the writer enters, a writer sets the mark, or takes it away.
 

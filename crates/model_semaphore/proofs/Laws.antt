@@ -1,12 +1,7 @@
 -- A semaphore keeps its law at every prefix of every run.
-use Rattle.model_semaphore.specs.Names.{IfSome, MatchBool, MatchOption, is_some, ◌&&◌, Wake, WaitAction, Word, Call, Act, Event, Then, place_after, within, same_word, PendingCall, call_of, hold_of, word_in, word_after, event, Move, step_at, is_step, sight_of, keeps_asking, last_of, WhereAsked, is_apart, Lacks, is_refusal}
-use Rattle.model_semaphore.proofs.Names.{◌≡◌, ℕ, ◌+◌, ◌-◌, ◌≤◌, ◌<◌, ◌%◌, ◌^◌, ◌==◌, refl, ◌∙◌, true, false, List, [], ◌∷◌, Option, Some, None, inl, arith, eqb-true, eqb-false, nat_tests, Descends, ends_within, no_holds, exclusive_unheld, by_move, tells_memory, IsKept, at_place, waits_first, waits_as, spins_no_more}
+use Rattle.model_semaphore.proofs.Names.{◌≡◌, ℕ, ◌+◌, ◌≤◌, ◌<◌, ◌^◌, refl, true, false, List, [], ◌∷◌, Option, Some, None, inl, arith, eqb-true, eqb-false, nat_tests, Descends, ends_within, no_holds, exclusive_unheld, by_move, tells_memory, IsKept, at_place, waits_first, waits_as, spins_no_more, IfSome, MatchBool, MatchOption, is_some, WaitAction, Word, Call, Act, Event, Then, place_after, same_word, PendingCall, call_of, hold_of, word_in, word_after, event, Move, step_at, is_step, sight_of, keeps_asking, last_of, WhereAsked, is_apart, Lacks, is_refusal, SemaphorePlace, semaphore_table, semaphore_begins, semaphore_intent, semaphore_after, semaphore_answered, permits_given, permits_taken, is_take, number_answered, semaphore_gives, semaphore_value, SemaphoreCause, wait_spins, permits_seen, SemaphoreStep, KeepsSemaphore, semaphore_most, semaphore_waiting}
 use Rattle.model_events.specs.Exports.{Arithmetic, IsPast}
 use Rattle.model_events.specs.declared.{hold.HoldKind.HoldKind}
-use Rattle.model_semaphore.specs.declared.SemaphorePlace.{SemaphorePlace}
-use Rattle.model_semaphore.specs.Table.{semaphore_table, semaphore_begins, semaphore_intent, semaphore_after, semaphore_answered}
-use Rattle.model_semaphore.specs.Permits.{permits_given, permits_taken, is_take, number_answered}
-use Rattle.model_semaphore.specs.Law.{semaphore_gives, semaphore_value, SemaphoreCause, wait_spins, permits_seen, SemaphoreStep, KeepsSemaphore, semaphore_most, semaphore_waiting}
 use Rattle.model_semaphore.proofs.Permits.{Effect, Tallies, tallies_first, tallies_after, lowered}
 use Rattle.model_semaphore.proofs.WaitSteps.{AtWait}
 
@@ -43,12 +38,6 @@ pub record EventLaw {T : Type 0} (initial party : ℕ) (past : List (Event T)) (
   pub cause : MatchBool (is_refusal m.outcome) (MatchOption pending ⊥ (λ c. SemaphoreCause initial c.call party (event party m.act m.outcome ∷ past))) (Unit {0})
   pub asks : WhereAsked IsAskedSo pending m.act m.outcome
   pub steps : MatchBool (is_step m.act) (MatchOption pending ⊥ (λ c. SemaphoreStep c.call c.own m.act m.outcome)) (Unit {0})
-
--- what follows from a look, apart from the act
-pub record LookLaw {T : Type 0} (initial party : ℕ) (past : List (Event T)) (c : PendingCall T) (w : ℕ) (act : Act T) (outcome : Then T) : Type 0 where
-  pub answered : IfSome (number_answered outcome) (λ v. v ≡ w)
-  pub cause : MatchBool (is_refusal outcome) (SemaphoreCause initial c.call party (event party act outcome ∷ past)) (Unit {0})
-  pub asks : WhereAsked IsAskedSo (Some c) act outcome
 
 -- What follows a step, by its kind.
 

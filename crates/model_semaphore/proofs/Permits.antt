@@ -1,6 +1,5 @@
 -- The word is what was given less what was taken, where each event changes all three alike.
-use Rattle.model_semaphore.specs.Names.{MatchBool}
-use Rattle.model_semaphore.proofs.Names.{◌≡◌, ◌≢◌, ℕ, ◌+◌, ◌-◌, ◌%◌, ◌^◌, ◌≤◌, ◌<◌, Bool, true, false, cond, ◌⊎◌, inl, inr, arith}
+use Rattle.model_semaphore.proofs.Names.{◌≡◌, ◌≢◌, ℕ, ◌+◌, ◌-◌, ◌%◌, ◌^◌, ◌≤◌, ◌<◌, Bool, true, false, cond, ◌⊎◌, inl, inr, arith, MatchBool}
 
 -- what an event does to the word: nothing, a gift of some permits, or a take where the word was not 0
 abbrev pub Effect : ℕ → ℕ → ℕ → Bool → Type 0

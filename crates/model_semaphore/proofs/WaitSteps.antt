@@ -1,11 +1,6 @@
 -- What each step of a `Wait` for a permit leads to, at any word, by the events that the call has made for it alone: so it serves a wait inside another
 -- call too.
-use Rattle.model_semaphore.specs.Names.{Word, Act, Answer, Event, Then, After, carried_out, value_told, latest_outcome, event, sight_of, is_abort, keeps_asking, spins_in}
-use Rattle.model_semaphore.proofs.Names.{◌≡◌, ◌≢◌, ◌∙◌, ℕ, ◌+◌, ◌-◌, ◌==◌, ◌&&◌, true, false, List, ◌∷◌, Some, arith, eqb-true, eqb-false, HasSpun, nat_tests}
-use Rattle.model_semaphore.specs.declared.SemaphorePlace.{SemaphorePlace}
-use Rattle.model_semaphore.specs.Table.{semaphore_intent, semaphore_after}
-use Rattle.model_semaphore.specs.Permits.{is_take}
-use Rattle.model_semaphore.specs.Law.{is_empty_look}
+use Rattle.model_semaphore.proofs.Names.{◌≡◌, ◌≢◌, ℕ, ◌+◌, ◌-◌, ◌==◌, true, false, List, ◌∷◌, Some, arith, eqb-true, eqb-false, HasSpun, nat_tests, Word, Act, Answer, Event, Then, After, carried_out, value_told, latest_outcome, event, sight_of, is_abort, keeps_asking, spins_in, SemaphorePlace, semaphore_intent, semaphore_after, is_take, is_empty_look}
 
 pub one_less : (v : ℕ) → v ≢ 0 → v ≡ (v - 1) + 1
 one_less v other = omega arith

@@ -1,6 +1,6 @@
 -- A spin lock keeps its law at every prefix of every run.
 use Rattle.std.proofs.lemmas.Bool.Decides.{nat_tests}
-use Rattle.std.proofs.Common.{◌≡◌, ℕ, ◌==◌, refl, ◌∙◌, true, false, is_some, List, [], ◌∷◌, Option, Some, None, ◌⊎◌, arith, ◌≤◌, ◌<◌}
+use Rattle.std.proofs.Common.{◌≡◌, ℕ, refl, true, false, is_some, List, [], ◌∷◌, Option, Some, None, ◌⊎◌, arith, ◌≤◌, ◌<◌}
 use Rattle.std.specs.Prelude.{MatchBool, MatchOption}
 use Rattle.std.proofs.lemmas.Bool.{eqb-true, eqb-false}
 use Rattle.model_events.specs.Exports.{Arithmetic, place_after, same_word, PendingCall, call_of, holds_of, hold_of, word_in, event, Move, step_at, is_step, IsPast, Lacks, is_refusal}

@@ -82,35 +82,81 @@ impl<A: Allocator> RwLockWriterPreference<A> {
         ensures aborted { result ≡ false → MayAnswerAbort W.Fn wait.now (λ n. n < 2 ^ 64) }
         ensures woke { result ≡ false → IsMarked (sights_of pass.new).last → HasWoken K.Fn wake_one.now × HasWoken V.Fn wake_all.now }
     {
-        let (at_once, marked) = self.first_try(pass, rt);
+        match self.first_try(pass) {
+            Ok(entered) => {
+                let _pass = entered.end(&self.stage);
+                true
+            }
+            Err((seen, refused)) => {
+                let (entered, _pass) = self.write_later(
+                    refused, rt, seen, wait, wake_one, wake_all,
+                );
+                entered
+            }
+        }
+    }
+
+    /// The look with which a `WriteLock` begins, and one exchange where nobody holds the lock: no loop, so that these are inlined. `Err`
+    /// with the value seen last, at which it has not entered.
+    #[inline(always)]
+    fn first_try<'p>(
+        &self,
+        pass: &'p mut PlayedPass,
+    ) -> Result<Turn<'p, PlayedPass, Goes>, (u64, Turn<'p, PlayedPass, Goes>)>
+        requires own { IsPassOf self.now.stage pass.old }
+        ensures same_borrow { IfOk result (λ next. next.pass.ghost_name ≡ pass.entry.ghost_name) }
+        ensures same_borrow_too { IfErr result (λ missed. missed.1.pass.ghost_name ≡ pass.entry.ghost_name) }
+        ensures entered { IfOk result (λ next. HasEnteredSeenFree pass.old next.pass.now) }
+        ensures refused { IfErr result (λ missed. HasTried 1 pass.old missed.1.pass.now × HasJustSeen missed.0 missed.1.pass.now) }
+        ensures granted { IfOk result (λ next. WriteIsGranted (all_of (parties_of pass.old)) (parties_of next.pass.now)) }
+        ensures goes_on { IfErr result (λ missed. WriteGoes (write_refused (spun 0) missed.0) (all_of (parties_of pass.old)) (parties_of missed.1.pass.now)) }
+        ensures exact { IsAloneWithin pass.old → is_ok result ≡ true }
+    {
+        let begun = begin_new::<WriteCall, PlayedPass>(pass);
+        let (seen, looked) = self.look_to_write(begun);
+        match self.enter_if_free(looked, seen) {
+            Ok(entered) => Ok(entered),
+            Err(refused) => Err(refused),
+        }
+    }
+
+    /// What it does from a value at which it has not entered. Whether it entered; the call is over.
+    fn write_later<
+        'p,
+        R: Wait,
+        W: Fn(&WaitWord, &u64) -> WaitAction,
+        K: Fn(&WaitWord),
+        V: Fn(&WaitWord),
+    >(
+        &self,
+        turn: Turn<'p, PlayedPass, Goes>,
+        rt: &R,
+        seen: u64,
+        wait: &W,
+        wake_one: &K,
+        wake_all: &V,
+    ) -> (bool, &'p mut PlayedPass)
+        requires own { IsPassOf self.now.stage turn.pass.now }
+        requires just { HasJustSeen seen turn.pass.now }
+        requires at { (done : List (Slot ℕ)) × WriteGoes (write_refused (spun 0) seen) done (parties_of turn.pass.now) }
+        requires may { W.IsAlwaysCallable wait.now }
+        requires may_one { K.IsAlwaysCallable wake_one.now }
+        requires may_all { V.IsAlwaysCallable wake_all.now }
+        ensures same_borrow { result.1.ghost_name ≡ turn.entry.pass.ghost_name }
+        ensures entered { MatchBool result.0 (HasEnteredSeenFree turn.entry.pass.now result.1.now) (HasGivenUpWriting 10002 turn.entry.pass.now result.1.now) }
+        ensures played { OnceWriting (write_refused (spun 0) seen) (parties_of turn.entry.pass.now) (λ done. MatchBool result.0 (WriteIsGranted done (parties_of result.1.now)) (WriteGivesUp done (parties_of result.1.now))) }
+        ensures aborted { result.0 ≡ false → MayAnswerAbort W.Fn wait.now (λ n. n < 2 ^ 64) }
+        ensures woke { result.0 ≡ false → IsMarked (sights_of result.1.now).last → HasWoken K.Fn wake_one.now × HasWoken V.Fn wake_all.now }
+    {
+        let (at_once, marked) = self.mark_or_enter(turn, rt, seen);
         if at_once {
-            let _pass = marked.end(&self.stage);
-            return true;
+            return (true, marked.end(&self.stage));
         }
         let (in_time, spun) = self.spin_to_write(marked, rt);
         if in_time {
-            let _pass = spun.end(&self.stage);
-            return true;
+            return (true, spun.end(&self.stage));
         }
-        let (entered, _pass) = self.ask_to_write(spun, rt, wait, wake_one, wake_all);
-        entered
-    }
-
-    /// What `enter_or_mark` does, with which a `WriteLock` begins.
-    #[inline(always)]
-    fn first_try<'p, R: Wait>(
-        &self,
-        pass: &'p mut PlayedPass,
-        rt: &R,
-    ) -> (bool, Turn<'p, PlayedPass, Goes>)
-        requires own { IsPassOf self.now.stage pass.old }
-        ensures same_borrow { result.1.pass.ghost_name ≡ pass.entry.ghost_name }
-        ensures entered { MatchBool result.0 (HasEnteredSeenFree pass.old result.1.pass.now) (HasTried 1 pass.old result.1.pass.now) }
-        ensures played { MatchBool result.0 (WriteIsGranted (all_of (parties_of pass.old)) (parties_of result.1.pass.now)) (WriteGoes (spins (spun 0)) (all_of (parties_of pass.old)) (parties_of result.1.pass.now)) }
-        ensures exact { IsAloneWithin pass.old → result.0 ≡ true }
-    {
-        let begun = begin_new::<WriteCall, PlayedPass>(pass);
-        self.enter_or_mark(begun, rt)
+        self.ask_to_write(spun, rt, wait, wake_one, wake_all)
     }
 
     /// Looks, and enters where nobody holds the lock; else sees to it that no reader enters. Whether it entered.
@@ -124,13 +170,12 @@ impl<A: Allocator> RwLockWriterPreference<A> {
         ensures same_borrow { result.1.pass.ghost_name ≡ turn.entry.pass.ghost_name }
         ensures entered { MatchBool result.0 (HasEnteredSeenFree turn.entry.pass.now result.1.pass.now) (HasTried 1 turn.entry.pass.now result.1.pass.now) }
         ensures played { (n : ℕ) (done : List (Slot ℕ)) → ComesToWrite W.coming (spun n) done (parties_of turn.entry.pass.now) → MatchBool result.0 (WriteIsGranted done (parties_of result.1.pass.now)) (WriteGoes (spins (spun n)) done (parties_of result.1.pass.now)) }
-        ensures exact { IsAloneWithin turn.entry.pass.now → result.0 ≡ true }
     {
         let (seen, looked) = self.look_to_write(turn);
         self.enter_or_mark_from(looked, rt, seen)
     }
 
-    /// The same from a value that it has just seen: an exchange that failed is a new look.
+    /// The same from a value that it has just seen.
     #[inline(always)]
     fn enter_or_mark_from<'p, R: Wait>(
         &self,
@@ -144,27 +189,42 @@ impl<A: Allocator> RwLockWriterPreference<A> {
         ensures same_borrow { result.1.pass.ghost_name ≡ turn.entry.pass.ghost_name }
         ensures entered { MatchBool result.0 (HasEnteredSeenFree turn.entry.pass.now result.1.pass.now) (HasTried 0 turn.entry.pass.now result.1.pass.now) }
         ensures played { (n : ℕ) → OnceWriting (write_look (spun n) seen) (parties_of turn.entry.pass.now) (λ done. MatchBool result.0 (WriteIsGranted done (parties_of result.1.pass.now)) (WriteGoes (spins (spun n)) done (parties_of result.1.pass.now))) }
-        ensures exact { seen ≡ 0 → IsAloneWithin turn.entry.pass.now → result.0 ≡ true }
+    {
+        match self.enter_if_free(turn, seen) {
+            Ok(entered) => (true, entered),
+            Err((last, refused)) => self.mark_or_enter(refused, rt, last),
+        }
+    }
+
+    /// The same from a value at which it has not entered: an exchange that failed is a new look.
+    fn mark_or_enter<'p, R: Wait>(
+        &self,
+        turn: Turn<'p, PlayedPass, Goes>,
+        rt: &R,
+        seen: u64,
+    ) -> (bool, Turn<'p, PlayedPass, Goes>)
+        requires own { IsPassOf self.now.stage turn.pass.now }
+        requires just { HasJustSeen seen turn.pass.now }
+        requires at { (n : ℕ) × (done : List (Slot ℕ)) × WriteGoes (write_refused (spun n) seen) done (parties_of turn.pass.now) }
+        ensures same_borrow { result.1.pass.ghost_name ≡ turn.entry.pass.ghost_name }
+        ensures entered { MatchBool result.0 (HasEnteredSeenFree turn.entry.pass.now result.1.pass.now) (HasTried 0 turn.entry.pass.now result.1.pass.now) }
+        ensures played { (n : ℕ) → OnceWriting (write_refused (spun n) seen) (parties_of turn.entry.pass.now) (λ done. MatchBool result.0 (WriteIsGranted done (parties_of result.1.pass.now)) (WriteGoes (spins (spun n)) done (parties_of result.1.pass.now))) }
     {
         let mut last = seen;
         let mut next = turn;
         for _ in rt.forever() {
-            match self.enter_if_free(next, last) {
-                Ok(entered) => return (true, entered),
-                Err((found, refused)) => {
-                    last = found;
-                    next = refused;
-                }
-            }
             let Some(marked) = marks(last) else {
                 return (false, next);
             };
             match self.set_mark(next, last, marked) {
                 Ok(set) => return (false, set),
-                Err((found, missed)) => {
-                    last = found;
-                    next = missed;
-                }
+                Err((found, missed)) => match self.enter_if_free(missed, found) {
+                    Ok(entered) => return (true, entered),
+                    Err((again, refused)) => {
+                        last = again;
+                        next = refused;
+                    }
+                },
             }
         }
         unreachable!()

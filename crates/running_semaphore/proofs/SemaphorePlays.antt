@@ -1,5 +1,5 @@
 -- The steps of a semaphore are those of its table.
-use Rattle.running_semaphore.proofs.Names.{MatchBool, Word, Call, Answer, Then, Intent, SemaphorePlace, semaphore_intent, semaphore_model, WaitResult, IsSuccess, IsInterrupted, Slot, Parties, all_of, Coming, Going, Beginning, ComesBy, IsAt, HasCalled, MayStep, Went, spun, MayTry, Tried, IsGranted, IsRefused, IsToWake, ◌≡◌, ◌≢◌, ℕ, ◌-◌, ◌<◌, ◌^◌, Bool, true, false, refl, List, [], ◌∷◌, None, ne_eqb, MatchBool-at_true, MatchBool-at_false, Wanting, Trying, Waiting, call_of, look_of, take_of, MayWant, FoundNone, HasOne, HasWanted, answer_of, Posts, nat_tests, eqb-true, eqb-false, arith}
+use Rattle.running_semaphore.proofs.Names.{MatchBool, Word, Call, Answer, Then, Intent, SemaphorePlace, semaphore_intent, semaphore_model, WaitResult, IsSuccess, IsInterrupted, Slot, Parties, all_of, Coming, Going, Beginning, ComesBy, IsAt, HasCalled, MayStep, Went, spun, MayTry, IsToWake, ◌≡◌, ◌≢◌, ℕ, ◌-◌, ◌<◌, ◌^◌, Bool, true, false, refl, List, [], ◌∷◌, None, ne_eqb, Wanting, Trying, Waiting, call_of, look_of, take_of, MayWant, FoundNone, HasOne, answer_of, Posts, nat_tests, eqb-true, eqb-false, arith}
 use Rattle.running_model.specs.Turns.{IsOverAside}
 use Rattle.running_semaphore.specs.SemaphoreParties.{HasLooked}
 
@@ -82,16 +82,6 @@ module _ (initial : ℕ) where
   pub looked_again : (wanting : Wanting) (seen found : ℕ) (done : List (Slot ℕ)) (p q : Parties ℕ) → seen ≢ 0 → found ≢ seen → HasLooked initial wanting seen done p →
       Went (semaphore_model initial) Going p found q → HasLooked initial wanting found done q
   looked_again wanting seen found done p q some miss at went = grind (arith, nat_tests, eqb-true, eqb-false, ne_eqb found seen miss, went (call_of wanting) (take_of wanting seen) None done (takes_next wanting seen done p some at))
-
-  -- what a try of a `Wait` came to
-
-  pub wait_took : (way : Coming ℕ) (took : Bool) (p q : Parties ℕ) → took ≡ true → HasWanted initial way took p q →
-      Tried (semaphore_model initial) Call.Wait SemaphorePlace.Look way p (λ _ done. IsGranted (semaphore_model initial) Call.Wait SemaphorePlace.Look None done q)
-  wait_took way took p q is wanted = λ patience done comes. MatchBool-at_true _ _ is (wanted (Waiting patience) done comes)
-
-  pub wait_refused : (way : Coming ℕ) (took : Bool) (p q : Parties ℕ) → took ≡ false → HasWanted initial way took p q →
-      Tried (semaphore_model initial) Call.Wait SemaphorePlace.Look way p (λ patience done. IsRefused (semaphore_model initial) Call.Wait SemaphorePlace.Look patience 0 done q)
-  wait_refused way took p q is wanted = λ patience done comes. MatchBool-at_false _ _ is (wanted (Waiting patience) done comes)
 
   -- `Post`
 

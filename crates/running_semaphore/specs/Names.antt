@@ -26,4 +26,4 @@ pub use Rattle.running_tallies.specs.SemaphoreRule.{value_of, permits, no_permit
 pub use Rattle.running_tallies.specs.SemaphoreScript.{semaphore_model}
 pub use Rattle.running_tallies.specs.declared.semaphore.Permits.{Permits}
 pub use Rattle.running_tallies.specs.declared.semaphore.SemaphoreScript.{SemaphoreScript}
-pub use Rattle.std.specs.Prelude.{ℕ, ◌-◌, Bool, List, None, MatchBool, ◌≡◌, ◌+◌, ◌<◌, ◌≤◌, ◌%◌, ◌^◌, [], ◌∷◌, slice_index}
+pub use Rattle.std.specs.Prelude.{ℕ, ◌-◌, Bool, true, List, None, MatchBool, ◌≡◌, ◌+◌, ◌<◌, ◌≤◌, ◌%◌, ◌^◌, [], ◌∷◌, slice_index}

@@ -53,6 +53,6 @@ module _ (initial : ℕ) where
   abbrev pub HasOne : Wanting → List (Slot ℕ) → Parties ℕ → Type 0
   HasOne wanting done p = HasEnded (semaphore_model initial) (call_of wanting) Answer.Success None done p
 
-  -- it took a permit, or saw none
-  abbrev pub HasWanted : Coming ℕ → Bool → Parties ℕ → Parties ℕ → Type 0
-  HasWanted coming took p q = OnceWanting coming p (λ wanting done. MatchBool took (HasOne wanting done q) (FoundNone wanting done q))
+  -- wherever it saw this last, it then took a permit, or saw none
+  abbrev pub HasWanted : ℕ → Bool → Parties ℕ → Parties ℕ → Type 0
+  HasWanted seen took p q = (wanting : Wanting) (done : List (Slot ℕ)) → HasLooked wanting seen done p → MatchBool took (HasOne wanting done q) (FoundNone wanting done q)

@@ -1,5 +1,5 @@
 -- What contracts see of a semaphore and its pass, and what a call changes in a pass.
-use Rattle.running_semaphore.specs.Names.{◌≡◌, ℕ, ◌+◌, ◌<◌, ◌≤◌, ◌%◌, ◌^◌, None, Call, Answer, Then, SemaphorePlace, semaphore_model, WaitResult, Success, Interrupted, IsWhole, IsSamePass, part_of, sights_of, looked, wrote, Played, Parties, all_of, HasCalled, IsAt, parties_of, counts_of, counted, HasMoved, Permits, SemaphoreScript, value_of}
+use Rattle.running_semaphore.specs.Names.{◌≡◌, ℕ, Bool, true, MatchBool, ◌+◌, ◌<◌, ◌≤◌, ◌%◌, ◌^◌, None, Call, Answer, Then, SemaphorePlace, semaphore_model, WaitResult, Success, Interrupted, IsWhole, IsSamePass, part_of, sights_of, looked, wrote, HasLooked, LooksOnceOrMisses, HasSeen, HasOnlySeen, WasRefused, Played, Parties, all_of, HasCalled, IsAt, parties_of, counts_of, counted, HasMoved, Permits, SemaphoreScript, value_of}
 use Rattle.running_passes.specs.declared.part.Part.{Part}
 use Rattle.running_passes.specs.declared.pass.Pass.{Pass}
 use Rattle.running_model.specs.Stages.{IsPassOf, key_of}
@@ -47,6 +47,32 @@ HasTaken = HasMoved Takes
 -- one look saw what the pass's tally came to, one permit was taken from it, and nothing else changed
 abbrev pub HasTakenAtOnce : SemPass → SemPass → Type 0
 HasTakenAtOnce p q = IsSamePass p q × (counted q ≡ wrote (looked (counted p) (worth_of p)) (took (counts_of p)))
+
+-- Within a call that wants a permit: the pass saw this last, by its first look or by an exchange that missed, and nothing else changed.
+pub record SawLast (seen : ℕ) (p q : SemPass) : Type 0 where
+  pub stayed : HasOnlySeen p q
+  pub last : HasLooked (λ n. n ≡ seen) 1 (sights_of p) (sights_of q)
+  pub fresh : (sights_of q).fresh ≡ true
+  pub looks : LooksOnceOrMisses (sights_of p) (sights_of q)
+  pub once : IsWhole (part_of p) → counted q ≡ looked (counted p) seen
+  pub exact : IsWhole (part_of p) → seen ≡ worth_of p
+
+-- it took a permit, or saw that there was none
+pub record TookOne (p q : SemPass) : Type 0 where
+  pub taken : HasTaken p q
+  pub looks : LooksOnceOrMisses (sights_of p) (sights_of q)
+  pub once : IsWhole (part_of p) → HasTakenAtOnce p q
+  pub some : IsWhole (part_of p) → 0 < worth_of p
+
+pub record SawNone (p q : SemPass) : Type 0 where
+  pub refused : WasRefused IsEmpty 1 p q
+  pub looks : LooksOnceOrMisses (sights_of p) (sights_of q)
+  pub once : IsWhole (part_of p) → HasSeen 0 p q
+  pub none : IsWhole (part_of p) → worth_of p ≡ 0
+
+-- whichever pass it was that had seen this last, it then took one, or saw that there was none
+abbrev pub TookOrSawNone : ℕ → Bool → SemPass → SemPass → Type 0
+TookOrSawNone seen took q r = (p : SemPass) → SawLast seen p q → MatchBool took (TookOne p r) (SawNone p r)
 
 -- So much was given and taken, and nothing else changed but what was seen on the way. A helper, a loop and a closure carry this one fact.
 pub record HasCounted (more less : ℕ) (p q : SemPass) : Type 0 where

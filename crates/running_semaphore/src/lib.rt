@@ -73,7 +73,7 @@ impl Called<u64> for WaitCall {
 }
 
 impl<A: Allocator> Semaphore<A> {
-    ghost use Rattle.std.specs.Prelude.{true, false, ◌+◌, ◌-◌, ◌≢◌, [], ◌∷◌, MatchBool};
+    ghost use Rattle.std.specs.Prelude.{true, false, ℕ, ◌-◌, ◌≢◌, [], ◌∷◌, List, MatchBool, IfErr};
     ghost use Rattle.model_events.specs.declared.event.Word.TheVariants as words;
     ghost use Rattle.model_events.specs.declared.event.Call.TheVariants as calls;
     ghost use Rattle.model_events.specs.declared.event.Answer.TheVariants as answers;
@@ -84,16 +84,16 @@ impl<A: Allocator> Semaphore<A> {
     ghost use Rattle.running_passes.specs.Sights.{LooksOnceOrMisses};
     ghost use Rattle.running_passes.specs.Views.{first_view};
     ghost use Rattle.running_passes.specs.Passes.{view, part_of, sights_of};
-    ghost use Rattle.running_model.specs.Slots.{no_parties};
+    ghost use Rattle.running_model.specs.Slots.{Slot, no_parties};
     ghost use Rattle.running_model.specs.Plays.{Beginning, Going, MayStep, Went};
     ghost use Rattle.running_model.specs.Passes.{played};
     ghost use Rattle.running_model.specs.Counts.{HasSeen, HasMissed, HasDone, WasRefused};
     ghost use Rattle.running_model.specs.Stages.{id_of};
     ghost use Rattle.running_tallies.specs.SemaphoreRule.{first_permits};
     ghost use Rattle.running_tallies.specs.Shown.{object_shown, index_shown};
-    ghost use Rattle.running_semaphore.specs.SemaphoreParties.{MayWant, HasWanted};
+    ghost use Rattle.running_semaphore.specs.SemaphoreParties.{Wanting, MayWant, OnceWanting, HasLooked, HasOne, HasWanted};
     ghost use Rattle.running_semaphore.specs.SemaphoreSteps.{took, gave};
-    ghost use Rattle.running_semaphore.specs.SemaphoreShown.{IsSemPass, initial_of, given_of, taken_of, worth_of, IsEmpty, HasTaken, HasTakenAtOnce, HasCounted, answer_of, HasPlayed, HasPlayedPost, HasPlayedBoth};
+    ghost use Rattle.running_semaphore.specs.SemaphoreShown.{IsSemPass, initial_of, given_of, taken_of, worth_of, IsEmpty, SawLast, TookOne, SawNone, TookOrSawNone, HasTaken, HasTakenAtOnce, HasCounted, answer_of, HasPlayed, HasPlayedPost, HasPlayedBoth};
 
     /// A semaphore of this value, and the pass that is whole. `Err` where there was no memory; then nothing was made.
     pub fn new(alloc: A, initial: u64) -> Result<(Semaphore<A>, SemPass), AllocError>
@@ -231,29 +231,42 @@ impl<A: Allocator> Semaphore<A> {
         ensures aborted { result ≡ false → MayAnswerAbort W.Fn wait.now IsEmpty }
         ensures asked { IsWhole (part_of pass.old) → result ≡ false → HasAsked W.Fn wait.now IsEmpty 10001 pass.old pass.new }
     {
-        let (took, turn) = self.first_take::<WaitCall, R>(rt, pass);
-        if took {
-            let _pass = turn.end(&self.stage);
-            return true;
+        match self.first_take::<WaitCall>(pass) {
+            Ok(took) => {
+                let _pass = took.end(&self.stage);
+                true
+            }
+            Err((seen, next)) => {
+                let (took, after) = self.take_from(next, rt, seen);
+                if took {
+                    let _pass = after.end(&self.stage);
+                    return true;
+                }
+                let (granted, last) = try_again(rt, after, self, &self.word(), 0, wait);
+                let _pass = last.end(&self.stage);
+                granted
+            }
         }
-        let (granted, last) = try_again(rt, turn, self, &self.word(), 0, wait);
-        let _pass = last.end(&self.stage);
-        granted
     }
 
     /// What `try_wait` does, and whether a permit was taken.
     #[inline(always)]
     fn try_enter<R: Wait>(&self, rt: &R, pass: &mut SemPass) -> bool
         requires own { IsSemPass self.now pass.old }
-        ensures takes { MatchBool result (HasTaken pass.old pass.new) (WasRefused IsEmpty 1 pass.old pass.new) }
+        ensures took { MatchBool result (TookOne pass.old pass.new) (SawNone pass.old pass.new) }
         ensures played { MatchBool result (HasPlayed (initial_of self.now) calls.TryWait answers.Success pass.old pass.new) (HasPlayed (initial_of self.now) calls.TryWait answers.Interrupted pass.old pass.new) }
-        ensures looks { LooksOnceOrMisses (sights_of pass.old) (sights_of pass.new) }
-        ensures once { IsWhole (part_of pass.old) → MatchBool result (HasTakenAtOnce pass.old pass.new) (HasSeen 0 pass.old pass.new) }
-        ensures exact { IsWhole (part_of pass.old) → MatchBool result (0 < worth_of pass.old) (worth_of pass.old ≡ 0) }
     {
-        let (took, turn) = self.first_take::<TryWaitCall, R>(rt, pass);
-        let _pass = turn.end(&self.stage);
-        took
+        match self.first_take::<TryWaitCall>(pass) {
+            Ok(took) => {
+                let _pass = took.end(&self.stage);
+                true
+            }
+            Err((seen, next)) => {
+                let (took, last) = self.take_from(next, rt, seen);
+                let _pass = last.end(&self.stage);
+                took
+            }
+        }
     }
 
     /// A load of the value.
@@ -322,57 +335,62 @@ impl<A: Allocator> Semaphore<A> {
         turn
     }
 
-    /// Looks, and takes a permit while there is one. False at a look that gave 0.
+    /// The look with which a call begins that wants a permit, and one exchange where there is one: no loop, so that these are inlined.
+    /// `Err` with the value seen last, from which it has taken none.
     #[inline(always)]
-    fn take<'p, W: Way<u64>, R: Wait>(
+    fn first_take<'p, L: Called<u64>>(
         &self,
-        turn: Turn<'p, SemPass, W>,
+        pass: &'p mut SemPass,
+    ) -> Result<Turn<'p, SemPass, Goes>, (u64, Turn<'p, SemPass, Goes>)>
+        requires own { IsSemPass self.now pass.old }
+        requires comes { MayWant (initial_of self.now) (Beginning L.call) (parties_of pass.old) }
+        ensures same_borrow { IfOk result (λ next. next.pass.ghost_name ≡ pass.entry.ghost_name) }
+        ensures same_borrow_too { IfErr result (λ missed. missed.1.pass.ghost_name ≡ pass.entry.ghost_name) }
+        ensures took { IfOk result (λ next. TookOne pass.old next.pass.now) }
+        ensures looked { IfErr result (λ missed. SawLast missed.0 pass.old missed.1.pass.now) }
+        ensures granted { IfOk result (λ next. OnceWanting (initial_of self.now) (Beginning L.call) (parties_of pass.old) (λ wanting done. HasOne (initial_of self.now) wanting done (parties_of next.pass.now))) }
+        ensures goes_on { IfErr result (λ missed. OnceWanting (initial_of self.now) (Beginning L.call) (parties_of pass.old) (λ wanting done. HasLooked (initial_of self.now) wanting missed.0 done (parties_of missed.1.pass.now))) }
+    {
+        let (seen, turn) = self.first_look::<L>(pass);
+        let Some(rest) = taken(seen) else {
+            return Err((seen, turn));
+        };
+        let (found, next) = self.exchange(turn, seen, rest);
+        if found == seen {
+            Ok(next)
+        } else {
+            Err((found, next))
+        }
+    }
+
+    /// Takes a permit while there is one, from a value that it has just seen: an exchange that failed is a new look. False at a look that
+    /// gave 0.
+    fn take_from<'p, R: Wait>(
+        &self,
+        turn: Turn<'p, SemPass, Goes>,
         rt: &R,
+        seen: u64,
     ) -> (bool, Turn<'p, SemPass, Goes>)
         requires own { IsSemPass self.now turn.pass.now }
-        requires comes { MayWant (initial_of self.now) W.coming (parties_of turn.pass.now) }
+        requires at { (wanting : Wanting) × (done : List (Slot ℕ)) × HasLooked (initial_of self.now) wanting seen done (parties_of turn.pass.now) }
         ensures same_borrow { result.1.pass.ghost_name ≡ turn.entry.pass.ghost_name }
-        ensures takes { MatchBool result.0 (HasTaken turn.entry.pass.now result.1.pass.now) (WasRefused IsEmpty 1 turn.entry.pass.now result.1.pass.now) }
-        ensures wanted { HasWanted (initial_of self.now) W.coming result.0 (parties_of turn.entry.pass.now) (parties_of result.1.pass.now) }
-        ensures looks { LooksOnceOrMisses (sights_of turn.entry.pass.now) (sights_of result.1.pass.now) }
-        ensures once { IsWhole (part_of turn.entry.pass.now) → MatchBool result.0 (HasTakenAtOnce turn.entry.pass.now result.1.pass.now) (HasSeen 0 turn.entry.pass.now result.1.pass.now) }
-        ensures exact { IsWhole (part_of turn.entry.pass.now) → MatchBool result.0 (0 < worth_of turn.entry.pass.now) (worth_of turn.entry.pass.now ≡ 0) }
+        ensures takes { TookOrSawNone seen result.0 turn.entry.pass.now result.1.pass.now }
+        ensures wanted { HasWanted (initial_of self.now) seen result.0 (parties_of turn.entry.pass.now) (parties_of result.1.pass.now) }
     {
-        let (first, after) = self.look(turn);
-        let mut seen = first;
-        let mut next = after;
+        let mut last = seen;
+        let mut next = turn;
         for _ in rt.forever() {
-            let Some(rest) = taken(seen) else {
+            let Some(rest) = taken(last) else {
                 return (false, next);
             };
-            let (found, again) = self.exchange(next, seen, rest);
-            if found == seen {
+            let (found, again) = self.exchange(next, last, rest);
+            if found == last {
                 return (true, again);
             }
-            seen = found;
+            last = found;
             next = again;
         }
         unreachable!()
-    }
-
-    /// The same, with which a call begins.
-    #[inline(always)]
-    fn first_take<'p, L: Called<u64>, R: Wait>(
-        &self,
-        rt: &R,
-        pass: &'p mut SemPass,
-    ) -> (bool, Turn<'p, SemPass, Goes>)
-        requires own { IsSemPass self.now pass.old }
-        requires comes { MayWant (initial_of self.now) (Beginning L.call) (parties_of pass.old) }
-        ensures same_borrow { result.1.pass.ghost_name ≡ pass.entry.ghost_name }
-        ensures takes { MatchBool result.0 (HasTaken pass.old result.1.pass.now) (WasRefused IsEmpty 1 pass.old result.1.pass.now) }
-        ensures wanted { HasWanted (initial_of self.now) (Beginning L.call) result.0 (parties_of pass.old) (parties_of result.1.pass.now) }
-        ensures looks { LooksOnceOrMisses (sights_of pass.old) (sights_of result.1.pass.now) }
-        ensures once { IsWhole (part_of pass.old) → MatchBool result.0 (HasTakenAtOnce pass.old result.1.pass.now) (HasSeen 0 pass.old result.1.pass.now) }
-        ensures exact { IsWhole (part_of pass.old) → MatchBool result.0 (0 < worth_of pass.old) (worth_of pass.old ≡ 0) }
-    {
-        let begun = begin_new::<L, SemPass>(pass);
-        self.take(begun, rt)
     }
 
     /// The semaphore's word, as closures see it.
@@ -433,7 +451,8 @@ impl<A: Allocator> Attempt<u64, SemaphoreScript, SemaphorePlace, u64, Permits> f
         ensures granted { IfOk result (λ next. Tried (semaphore_model (initial_of self.now)) calls.Wait places.Look W.coming (parties_of turn.entry.pass.now) (λ _ done. IsGranted (semaphore_model (initial_of self.now)) calls.Wait places.Look None done (parties_of next.pass.now))) }
         ensures failed { IfErr result (λ missed. Tried (semaphore_model (initial_of self.now)) calls.Wait places.Look W.coming (parties_of turn.entry.pass.now) (λ patience done. IsRefused (semaphore_model (initial_of self.now)) calls.Wait places.Look patience missed.0 done (parties_of missed.1.pass.now))) }
     {
-        let (took, next) = self.take(turn, rt);
+        let (seen, looked) = self.look(turn);
+        let (took, next) = self.take_from(looked, rt, seen);
         if took { Ok(next) } else { Err((0, next)) }
     }
 }

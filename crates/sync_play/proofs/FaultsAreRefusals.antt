@@ -1,10 +1,5 @@
 -- A text's fault is that of its first refused line, and every refused line is told.
-use Rattle.sync_play.specs.Names.{Event, Input, Object, StepFault, Arithmetic, Move, goes_on, InputValues, fault_of, move_of, IsNext, after, IsRun, FaultyLine, LineFault, Header, Command, Task, command_of, ◌>>=◌, at_line, line_fault_of, words_of, header_of, Numerals, ReadsValues}
-use Rattle.sync_play.proofs.Names.{nat_tests, eqb-true, eqb-false, ◌≡◌, ℕ, zero, suc, ◌+◌, Bool, true, cond, List, [], ◌∷◌, ◌++◌, length, Option, Some, None, Result, Ok, Err, ◌⊎◌, inl, inr, refl, sym, ap, subst, ◌∙◌, arith, HasValues, command_values}
-use Rattle.sync_play.specs.Player.{event_by, unless_refused, event_of, events_of, run_of, steps_of, task_events}
-use Rattle.sync_play.specs.Text.{events_asked, line_events, output_after, typed_output}
-use Rattle.sync_play.specs.Print.{printed}
-use Rattle.sync_play.specs.Law.{LinesAsk, GoOn, IsRefusedAt, RunRefused, TaskRefused, LineRefused, LaterLineRefused, IsRefusedLine}
+use Rattle.sync_play.proofs.Names.{nat_tests, eqb-true, eqb-false, ◌≡◌, ℕ, zero, suc, ◌+◌, Bool, true, cond, List, [], ◌∷◌, ◌++◌, length, Option, Some, None, Result, Ok, Err, ◌⊎◌, inl, inr, refl, sym, ap, subst, ◌∙◌, arith, HasValues, command_values, Event, Input, Object, StepFault, Arithmetic, Move, goes_on, InputValues, fault_of, move_of, IsNext, after, IsRun, FaultyLine, LineFault, Header, Command, Task, command_of, ◌>>=◌, at_line, line_fault_of, words_of, header_of, Numerals, ReadsValues, event_by, unless_refused, event_of, events_of, run_of, steps_of, task_events, events_asked, line_events, output_after, typed_output, printed, LinesAsk, GoOn, IsRefusedAt, RunRefused, TaskRefused, LineRefused, LaterLineRefused, IsRefusedLine}
 use Rattle.sync_play.proofs.Moves.{HavePlacesAt, none_have_places, next_has_places_at, run_has_places, allowed_moves}
 use Rattle.sync_play.proofs.RunsAreOutputs.{no_inputs, cut_run, line_is}
 use Rattle.sync_play.proofs.OutputsAreRuns.{ok_at_line, next_is, run_of_both, line_runs}

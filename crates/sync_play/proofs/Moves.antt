@@ -1,6 +1,5 @@
 -- In a run each call under way has a next step, so an input that is not refused gives an event.
-use Rattle.sync_play.specs.Names.{Event, Input, Object, Arithmetic, after, table_of, fault_of, move_of, IsNext, IsRun}
-use Rattle.sync_play.proofs.Names.{◌≡◌, ℕ, List, [], ◌∷◌, None}
+use Rattle.sync_play.proofs.Names.{◌≡◌, ℕ, List, [], ◌∷◌, None, Event, Input, Object, Arithmetic, after, table_of, fault_of, move_of, IsNext, IsRun}
 use Rattle.model_events.proofs.Parties.{HavePlaces, next_has_places, gives_event}
 
 module _ {T : Type 0} (z : Arithmetic T) where

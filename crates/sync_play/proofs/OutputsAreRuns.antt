@@ -1,11 +1,6 @@
 -- Where a text has an output, it is what a run of the text's inputs prints.
-use Rattle.sync_play.specs.Names.{Event, Input, Object, StepFault, Arithmetic, Move, goes_on, InputValues, call_of, hold_of, table_of, word_in, fault_of, move_of, IsNext, after, IsRun, FaultyLine, LineFault, Task, Command, ◌>>=◌, at_line, command_of, words_of, header_of, Numerals, ReadsValues}
-use Rattle.sync_play.proofs.Names.{nat_tests, eqb-true, eqb-false, ◌≡◌, ℕ, zero, suc, ◌+◌, ◌≤◌, Bool, true, false, cond, List, [], ◌∷◌, ◌++◌, Option, Some, None, Result, Ok, refl, sym, ap, subst, ◌∙◌, append_assoc, arith, flat_map-append, bind_ok, ok_is, HasValues, command_values}
+use Rattle.sync_play.proofs.Names.{nat_tests, eqb-true, eqb-false, ◌≡◌, ℕ, zero, suc, ◌+◌, ◌≤◌, Bool, true, false, cond, List, [], ◌∷◌, ◌++◌, Option, Some, None, Result, Ok, refl, sym, ap, subst, ◌∙◌, append_assoc, arith, flat_map-append, bind_ok, ok_is, HasValues, command_values, Event, Input, Object, StepFault, Arithmetic, Move, goes_on, InputValues, call_of, hold_of, table_of, word_in, fault_of, move_of, IsNext, after, IsRun, FaultyLine, LineFault, Task, Command, ◌>>=◌, at_line, command_of, words_of, header_of, Numerals, ReadsValues, event_by, unless_refused, event_of, events_of, run_of, steps_of, task_events, events_asked, line_events, output_after, typed_output, printed, event_lines, last_line, EndsFirstAtLast, AreInputsOf, LineAsks, LinesAsk, IsRunOfLines}
 use Rattle.model_events.proofs.Steps.{form_of_move}
-use Rattle.sync_play.specs.Player.{event_by, unless_refused, event_of, events_of, run_of, steps_of, task_events}
-use Rattle.sync_play.specs.Text.{events_asked, line_events, output_after, typed_output}
-use Rattle.sync_play.specs.Print.{printed, event_lines, last_line}
-use Rattle.sync_play.specs.Law.{EndsFirstAtLast, AreInputsOf, LineAsks, LinesAsk, IsRunOfLines}
 use Rattle.sync_play.proofs.PlayerLaws.{run_length}
 use Rattle.sync_play.proofs.TextLaws.{after_both}
 

@@ -1,10 +1,6 @@
 -- A text whose `run` would borrow its end from a later line has another output.
-use Rattle.sync_play.specs.Names.{codes, Act, Answer, Call, Event, Input, Object, Then, Wake, Word, IsRun, FaultyLine, Task, header_of, command_of, task_of, lines_of, u64_numerals}
-use Rattle.sync_play.proofs.Names.{◌≡◌, ℕ, true, List, [], ◌∷◌, length, Some, Result, Ok, Err, refl, sym, ap, ◌∙◌, arith, decimal_digit}
+use Rattle.sync_play.proofs.Names.{◌≡◌, ℕ, true, List, [], ◌∷◌, length, Some, Result, Ok, Err, refl, sym, ap, ◌∙◌, arith, decimal_digit, codes, Act, Answer, Call, Event, Input, Object, Then, Wake, Word, IsRun, FaultyLine, Task, header_of, command_of, task_of, lines_of, u64_numerals, steps_of, last_line, LinesAsk, IsRunOfText, EndsInItsLine}
 use Rattle.model_events.specs.Integers.{u64_arithmetic}
-use Rattle.sync_play.specs.Player.{steps_of}
-use Rattle.sync_play.specs.Print.{last_line}
-use Rattle.sync_play.specs.Law.{LinesAsk, IsRunOfText, EndsInItsLine}
 use Rattle.sync_play.proofs.RunsAreOutputs.{runs_are_outputs}
 
 abbrev Ev : Type 0

@@ -1,13 +1,8 @@
 -- A walk is played and printed, one more stride at a time.
-use Rattle.sync_play.specs.Names.{replicate, Act, Event, Object, Arithmetic, after, Configuration, StandsAt, is_quiet, IsQuiet, FaultyLine, TextFault, Header, IsFaultOf, lines_of, Numerals}
-use Rattle.sync_play.proofs.Names.{nat_tests, eqb-true, eqb-false, ◌≡◌, ℕ, zero, suc, ◌<◌, true, List, [], ◌∷◌, ◌++◌, Option, Some, None, Result, Ok, Err, IfSome, refl, sym, ap, ◌∙◌, append_assoc, arith, append-nil}
+use Rattle.sync_play.proofs.Names.{nat_tests, eqb-true, eqb-false, ◌≡◌, ℕ, zero, suc, ◌<◌, true, List, [], ◌∷◌, ◌++◌, Option, Some, None, Result, Ok, Err, IfSome, refl, sym, ap, ◌∙◌, append_assoc, arith, append-nil, replicate, Act, Event, Object, Arithmetic, after, Configuration, StandsAt, is_quiet, IsQuiet, FaultyLine, TextFault, Header, IsFaultOf, lines_of, Numerals, printed, act_line, event_lines, last_line, typed_output, Walk, steps_then, nothing, go_walk, lines_walk, opened, rest_walk, IsNextStride, events_in, output_unless, output_in, output_opened, PrintsAll}
 use Rattle.sync_play.specs.declared.walk.Rest.{Rest}
 use Rattle.sync_play.specs.declared.walk.Step.{Step}
 use Rattle.sync_play.specs.declared.walk.Stride.{Stride}
-use Rattle.sync_play.specs.Print.{printed, act_line, event_lines, last_line}
-use Rattle.sync_play.specs.Text.{typed_output}
-use Rattle.sync_play.specs.Walk.{Walk, steps_then, nothing, go_walk, lines_walk, opened, rest_walk, IsNextStride}
-use Rattle.sync_play.specs.WalkOutput.{events_in, output_unless, output_in, output_opened, PrintsAll}
 use Rattle.sync_play.proofs.TextLaws.{after_both}
 use Rattle.sync_play.proofs.WalksAreOutputs.{walks_print}
 

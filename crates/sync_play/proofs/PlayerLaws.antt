@@ -1,7 +1,5 @@
 -- An input gives its one event, and a schedule the events of its run.
-use Rattle.sync_play.specs.Names.{Event, Input, Object, StepFault, Arithmetic, fault_of, IsNext, after, IsRun, LineFault, ◌>>=◌, line_fault_of}
-use Rattle.sync_play.proofs.Names.{arith, nat_tests, eqb-true, eqb-false, ◌≡◌, ℕ, suc, List, [], ◌∷◌, ◌++◌, length, Some, Result, Ok, Err, refl, sym, ap, subst, ◌∙◌, ok_is, bind_ok}
-use Rattle.sync_play.specs.Player.{event_of, events_of}
+use Rattle.sync_play.proofs.Names.{arith, nat_tests, eqb-true, eqb-false, ◌≡◌, ℕ, suc, List, [], ◌∷◌, ◌++◌, length, Some, Result, Ok, Err, refl, sym, ap, subst, ◌∙◌, ok_is, bind_ok, Event, Input, Object, StepFault, Arithmetic, fault_of, IsNext, after, IsRun, LineFault, ◌>>=◌, line_fault_of, event_of, events_of}
 
 -- these events, and then the others
 abbrev pub with_front : {A : Type 0} → List A → Result (List A) LineFault → Result (List A) LineFault

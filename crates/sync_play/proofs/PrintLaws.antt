@@ -1,7 +1,5 @@
 -- Lines are printed in pieces.
-use Rattle.sync_play.specs.Names.{codes, decimal, Event, Object, Word, Arithmetic, failures_in, word_in, Numerals}
-use Rattle.sync_play.proofs.Names.{nat_tests, eqb-true, eqb-false, ◌≡◌, ◌∙◌, refl, ap, arith, ℕ, ◌+◌, ◌-◌, ◌^◌, ◌<◌, min, if◌then◌else◌, is_ok, List, ◌∷◌, ◌++◌, Result, OnOk, append_assoc, decimal_digit}
-use Rattle.sync_play.specs.Print.{party_words, party_line, named, further_words, last_line}
+use Rattle.sync_play.proofs.Names.{nat_tests, eqb-true, eqb-false, ◌≡◌, ◌∙◌, refl, ap, arith, ℕ, ◌+◌, ◌-◌, ◌^◌, ◌<◌, min, if◌then◌else◌, is_ok, List, ◌∷◌, ◌++◌, Result, OnOk, append_assoc, decimal_digit, codes, decimal, Event, Object, Word, Arithmetic, failures_in, word_in, Numerals, party_words, party_line, named, further_words, last_line}
 
 -- what is printed, if the last piece is
 printed_all : {A E P Q : Type 0} (result : Result A E) → (P → Q) → OnOk result P → OnOk result Q

@@ -1,10 +1,5 @@
 -- What a run of a text's inputs prints is the text's output.
-use Rattle.sync_play.specs.Names.{Event, Input, Object, Arithmetic, after, IsRun, Command, Task, command_of, at_line, words_of, Numerals}
-use Rattle.sync_play.proofs.Names.{nat_tests, eqb-true, eqb-false, ◌≡◌, ℕ, zero, suc, ◌+◌, ◌≤◌, List, [], ◌∷◌, ◌++◌, length, Option, Some, None, Ok, refl, sym, ap, subst, ◌∙◌, append_assoc, arith, flat_map-append}
-use Rattle.sync_play.specs.Player.{events_of, run_of, steps_of, task_events}
-use Rattle.sync_play.specs.Text.{line_events, output_after, typed_output}
-use Rattle.sync_play.specs.Print.{printed, event_lines, last_line}
-use Rattle.sync_play.specs.Law.{EndsFirstAtLast, AreInputsOf, CommandAsks, LineAsks, LinesAsk, IsRunOfLines}
+use Rattle.sync_play.proofs.Names.{nat_tests, eqb-true, eqb-false, ◌≡◌, ℕ, zero, suc, ◌+◌, ◌≤◌, List, [], ◌∷◌, ◌++◌, length, Option, Some, None, Ok, refl, sym, ap, subst, ◌∙◌, append_assoc, arith, flat_map-append, Event, Input, Object, Arithmetic, after, IsRun, Command, Task, command_of, at_line, words_of, Numerals, events_of, run_of, steps_of, task_events, line_events, output_after, typed_output, printed, event_lines, last_line, EndsFirstAtLast, AreInputsOf, CommandAsks, LineAsks, LinesAsk, IsRunOfLines}
 use Rattle.sync_play.proofs.PlayerLaws.{event_is, run_is}
 use Rattle.sync_play.proofs.TextLaws.{after_both, asks_none, asks_command, line_then, lines_end, header_is}
 

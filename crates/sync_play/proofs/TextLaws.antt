@@ -1,9 +1,5 @@
 -- What a line asks, and what the lines of a text print.
-use Rattle.sync_play.specs.Names.{Event, Object, after, Arithmetic, Command, FaultyLine, LineFault, Header, command_of, ◌>>=◌, at_line, header_of, words_of, Numerals}
-use Rattle.sync_play.proofs.Names.{◌≡◌, ℕ, ◌+◌, List, [], ◌∷◌, ◌++◌, Some, None, Result, Ok, Err, refl}
-use Rattle.sync_play.specs.Player.{command_events}
-use Rattle.sync_play.specs.Print.{printed, last_line}
-use Rattle.sync_play.specs.Text.{line_events, output_after, typed_output}
+use Rattle.sync_play.proofs.Names.{◌≡◌, ℕ, ◌+◌, List, [], ◌∷◌, ◌++◌, Some, None, Result, Ok, Err, refl, Event, Object, after, Arithmetic, Command, FaultyLine, LineFault, Header, command_of, ◌>>=◌, at_line, header_of, words_of, Numerals, command_events, printed, last_line, line_events, output_after, typed_output}
 
 pub after_both : {T : Type 0} (events more past : List (Event T)) → after (events ++ more) past ≡ after more (after events past)
 after_both [] more past = refl

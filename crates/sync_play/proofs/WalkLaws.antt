@@ -1,8 +1,6 @@
 -- A walk goes on by the next events of what is left of its line, and then by the next line.
 use Rattle.sync_play.specs.Names.{replicate, Event, Input, Object, StepFault, Arithmetic, goes_on, EventStride, Configuration, StandsAt, Steps, RefusesStep, steps_of, Strides, IsQuiet, IsRun, Command, Task, LineFault, line_fault_of, lines_of, words_of, Numerals}
-use Rattle.sync_play.proofs.Names.{nat_tests, eqb-true, eqb-false, ◌⊎◌, inl, inr, ◌≡◌, ℕ, zero, suc, ◌-◌, ◌+◌, ◌*◌, ◌^◌, ◌<◌, ◌≤◌, Bool, true, false, cond, List, [], ◌∷◌, Option, Some, None, Ok, Err, IfSome, refl, ap, subst, ◌∙◌, arith}
-use Rattle.sync_play.specs.Player.{event_of, steps_left, left_after}
-use Rattle.sync_play.specs.Walk.{Walk, ended, stopped, step_then, steps_then, go_walk, run_walk, asked, lines_walk, walk_from, after_times, IsTurn}
+use Rattle.sync_play.proofs.Names.{nat_tests, eqb-true, eqb-false, ◌⊎◌, inl, inr, ◌≡◌, ℕ, zero, suc, ◌-◌, ◌+◌, ◌*◌, ◌^◌, ◌<◌, ◌≤◌, Bool, true, false, cond, List, [], ◌∷◌, Option, Some, None, Ok, Err, IfSome, refl, ap, subst, ◌∙◌, arith, event_of, steps_left, left_after, Walk, ended, stopped, step_then, steps_then, go_walk, run_walk, asked, lines_walk, walk_from, after_times, IsTurn}
 use Rattle.sync_play.proofs.PlayerLaws.{event_is, event_refused}
 
 -- How many steps are left.

@@ -1,11 +1,5 @@
 -- What a text prints is what its walk prints.
-use Rattle.sync_play.specs.Names.{Event, Input, Object, after, goes_on, Arithmetic, Command, Task, LineFault, Header, command_of, ◌>>=◌, at_line, header_of, words_of, FaultyLine, Numerals}
-use Rattle.sync_play.proofs.Names.{arith, nat_tests, eqb-true, eqb-false, ◌≡◌, ℕ, zero, suc, ◌+◌, Bool, true, false, cond, List, [], ◌∷◌, ◌++◌, Option, Some, None, Result, Ok, Err, refl, ap, ◌∙◌, append_assoc}
-use Rattle.sync_play.specs.Player.{event_of, events_of, run_of, steps_of, task_events}
-use Rattle.sync_play.specs.Print.{printed, event_lines}
-use Rattle.sync_play.specs.Text.{events_asked, line_events, output_after, typed_output}
-use Rattle.sync_play.specs.WalkOutput.{output_in, output_opened}
-use Rattle.sync_play.specs.Walk.{Walk, step_then, event_then, go_walk, run_walk, task_walk, or_nothing, line_walk, lines_walk, opened, opened_by}
+use Rattle.sync_play.proofs.Names.{arith, nat_tests, eqb-true, eqb-false, ◌≡◌, ℕ, zero, suc, ◌+◌, Bool, true, false, cond, List, [], ◌∷◌, ◌++◌, Option, Some, None, Result, Ok, Err, refl, ap, ◌∙◌, append_assoc, Event, Input, Object, after, goes_on, Arithmetic, Command, Task, LineFault, Header, command_of, ◌>>=◌, at_line, header_of, words_of, FaultyLine, Numerals, event_of, events_of, run_of, steps_of, task_events, printed, event_lines, events_asked, line_events, output_after, typed_output, output_in, output_opened, Walk, step_then, event_then, go_walk, run_walk, task_walk, or_nothing, line_walk, lines_walk, opened, opened_by}
 
 abbrev Out : Type 0
 Out = Result (List ℕ) FaultyLine

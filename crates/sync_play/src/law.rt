@@ -6,6 +6,7 @@ ghost use Rattle.sync_play.specs.Calls.{TextsNameCalls, TextsReadCallsBack};
 use text_lines::integer::TextInteger;
 
 /// The walk of a text is what is played of it: its output is what the events of the walk's steps print, and its fault is the walk's.
+#[tactic(auto, using(crate::proofs::WalksAreOutputs::walks_print))]
 pub fn walks_are_outputs<T: TextInteger>()
     ensures { WalksAreOutputs T.arithmetic T.numerals }
 {}
@@ -26,6 +27,7 @@ pub fn faults_are_refusals()
 
 /// A `run` ends in its own line, and borrows no end from a later one: a run of all the text's inputs whose `run` is cut short, and
 /// whose later `go` makes two steps, is none of the text.
+#[tactic(auto, using(crate::proofs::OwnLine::ends_in_its_line))]
 pub fn a_run_ends_in_its_line()
     ensures { EndsInItsLine }
 {}

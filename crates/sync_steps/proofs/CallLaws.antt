@@ -1,7 +1,5 @@
 -- Each call that an object has can be begun.
-use Rattle.sync_steps.specs.Names.{Call, Object, HoldKind, Arithmetic, begin_fault}
-use Rattle.sync_steps.proofs.Names.{◌≡◌, true, Option, Some, None, arith, if◌then◌else◌}
-use Rattle.sync_steps.specs.Objects.{table_of, has_call, wants_hold}
+use Rattle.sync_steps.proofs.Names.{◌≡◌, true, Option, Some, None, arith, if◌then◌else◌, Call, Object, HoldKind, Arithmetic, begin_fault, table_of, has_call, wants_hold}
 
 -- a hold with which a party may begin the call
 abbrev fit : {T : Type 0} → Object T → Call T → Option HoldKind

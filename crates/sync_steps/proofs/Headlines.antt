@@ -1,6 +1,5 @@
 -- The headline holds at every prefix of every run, and a word that an object does not have is 0.
-use Rattle.sync_steps.specs.Names.{Event, Input, Object, Word, Arithmetic, same_word, AtEveryPrefix, mutex_table, spin_table, semaphore_table, semaphore_opening, barrier_table, rw_reader_table, rw_writer_table, condvar_table, once_table, lazy_table, atomic_table, atomic_opening}
-use Rattle.sync_steps.proofs.Names.{◌≡◌, ◌∙◌, ℕ, false, sym, subst, List, [], ◌∷◌, lacked_word, arith, eqb-true, eqb-false, nat_tests}
+use Rattle.sync_steps.proofs.Names.{◌≡◌, ◌∙◌, ℕ, false, sym, subst, List, [], ◌∷◌, lacked_word, arith, eqb-true, eqb-false, nat_tests, Event, Input, Object, Word, Arithmetic, same_word, AtEveryPrefix, mutex_table, spin_table, semaphore_table, semaphore_opening, barrier_table, rw_reader_table, rw_writer_table, condvar_table, once_table, lazy_table, atomic_table, atomic_opening, has_word, word_in, IsNext, IsPast, IsRun}
 use Rattle.model_mutex.proofs.Laws.{keeps_mutex, mutex_lacks}
 use Rattle.model_spin.proofs.Laws.{keeps_spin, spin_lacks}
 use Rattle.model_semaphore.proofs.Laws.{keeps_semaphore, semaphore_lacks}
@@ -14,8 +13,6 @@ use Rattle.model_once.proofs.Laws.{keeps_once, once_lacks}
 use Rattle.model_lazy.proofs.Laws.{keeps_lazy, lazy_lacks}
 use Rattle.model_atomic.proofs.Data.{keeps_atomic}
 use Rattle.model_atomic.proofs.Laws.{atomic_lacks}
-use Rattle.sync_steps.specs.Objects.{has_word}
-use Rattle.sync_steps.specs.Runs.{word_in, IsNext, IsPast, IsRun}
 use Rattle.sync_steps.specs.Law.{Headline}
 
 pub headline : {T : Type 0} (z : Arithmetic T) (o : Object T) (parties : ℕ) (past : List (Event T)) → IsPast z o parties past → Headline z o past

@@ -1,8 +1,5 @@
 -- Playing one more input.
-use Rattle.sync_steps.specs.Names.{Event, Input, Object, StepFault, Arithmetic, after}
-use Rattle.sync_steps.proofs.Names.{◌≡◌, ℕ, ◌+◌, ◌<◌, refl, sym, ◌∙◌, ap, subst, List, [], ◌∷◌, ◌++◌, length, take, get_or, Some, slice_get, slice_get-get_or, take_more, arith, eqb-true, eqb-false, nat_tests}
-use Rattle.sync_steps.specs.Runs.{fault_of, IsNext, IsRun}
-use Rattle.sync_steps.specs.Machine.{Configuration, StandsAt, Steps, Plays, PlaysUpTo}
+use Rattle.sync_steps.proofs.Names.{◌≡◌, ℕ, ◌+◌, ◌<◌, refl, sym, ◌∙◌, ap, subst, List, [], ◌∷◌, ◌++◌, length, take, get_or, Some, slice_get, slice_get-get_or, take_more, arith, eqb-true, eqb-false, nat_tests, Event, Input, Object, StepFault, Arithmetic, after, fault_of, IsNext, IsRun, Configuration, StandsAt, Steps, Plays, PlaysUpTo}
 use Rattle.sync_steps.proofs.Headlines.{headline, prefixes}
 
 run_more :

@@ -1,18 +1,8 @@
 -- A turn leads from where a run stands to where it stands with one more event.
-use Rattle.sync_steps.specs.Names.{ForSome, replicate, Event, Input, Object, StepFault, Act, Then, Word, HoldKind, word_at, Arithmetic, PendingCall, call_of, call_after, hold_of, hold_after, word_after, failures_in, event, InputValues, fault_at, Table}
-use Rattle.sync_steps.proofs.Names.{◌≡◌, ◌≢◌, ℕ, zero, suc, ◌<◌, ◌≤◌, refl, sym, ◌∙◌, ap, subst, List, [], ◌∷◌, length, false, Option, Some, None, Result, Ok, Err, IfOk, IfErr, ◌⊎◌, inl, inr, slice_get, slice_set, get_or, arith, slice_get-get_or, lt-ltb, eqb_tells, length-set, length-replicate, set-get_or, call_of_same, call_of_other, hold_of_same, hold_of_other, eqb-true, eqb-false, nat_tests}
+use Rattle.sync_steps.proofs.Names.{◌≡◌, ◌≢◌, ℕ, zero, suc, ◌<◌, ◌≤◌, refl, sym, ◌∙◌, ap, subst, List, [], ◌∷◌, length, false, Option, Some, None, Result, Ok, Err, IfOk, IfErr, ◌⊎◌, inl, inr, slice_get, slice_set, get_or, arith, slice_get-get_or, lt-ltb, eqb_tells, length-set, length-replicate, set-get_or, call_of_same, call_of_other, hold_of_same, hold_of_other, eqb-true, eqb-false, nat_tests, ForSome, replicate, Event, Input, Object, StepFault, Act, Then, Word, HoldKind, word_at, Arithmetic, PendingCall, call_of, call_after, hold_of, hold_after, word_after, failures_in, event, InputValues, fault_at, Table, Doing, Party, Turn, table_of, has_word, IsObject, word_in, fault_of, IsNext, Configuration, StandsAt, Steps, RefusesStep, KeepsHeadline, Applies, HasWritten, HasTurned, HasRefused, IsParty, DoesCall, opening_at, turn_at, TurnsTo}
 use std.Path.{fun_ext}
 use Rattle.model_events.specs.Moves as moves
 use Rattle.model_events.specs.Runs as runs
-use Rattle.sync_steps.specs.declared.steps.place.Doing.{Doing}
-use Rattle.sync_steps.specs.declared.steps.place.Party.{Party}
-use Rattle.sync_steps.specs.Machine.Turns.{Turn}
-use Rattle.sync_steps.specs.Objects.{table_of, has_word, IsObject}
-use Rattle.sync_steps.specs.Runs.{word_in, fault_of, IsNext}
-use Rattle.sync_steps.specs.Machine.{Configuration, StandsAt, Steps, RefusesStep, KeepsHeadline}
-use Rattle.sync_steps.specs.Machine.Applies.{Applies, HasWritten, HasTurned, HasRefused}
-use Rattle.sync_steps.specs.Machine.Places.{IsParty, DoesCall, opening_at}
-use Rattle.sync_steps.specs.Machine.Turns.{turn_at, TurnsTo}
 use Rattle.sync_steps.proofs.Headlines.{headline, absent_word}
 use Rattle.sync_steps.proofs.Places.{opening_is}
 use Rattle.sync_steps.proofs.Turns.{Turns, TurnsOr, turns_at}

@@ -1,16 +1,11 @@
 -- What a line asks brings values of the text's type.
-use Rattle.text_lines.specs.Names.{bytes_eq, Call, Object, Arithmetic}
-use Rattle.text_lines.proofs.Names.{nat_tests, eqb-true, eqb-false, ◌≡◌, ℕ, ◌-◌, ◌^◌, Bool, cond, List, [], ◌∷◌, Option, Some, None, Result, Ok, subst, arith}
+use Rattle.text_lines.proofs.Names.{nat_tests, eqb-true, eqb-false, ◌≡◌, ℕ, ◌-◌, ◌^◌, Bool, cond, List, [], ◌∷◌, Option, Some, None, Result, Ok, subst, arith, bytes_eq, Call, Object, Arithmetic, LineFault, ◌>>=◌, calls_of, named, number_within}
 use Rattle.model_events.specs.Moves.{CallValues, InputValues}
 use Rattle.text_lines.specs.declared.command.Command.{Command}
 use Rattle.text_lines.specs.declared.command.Form.{Form}
 use Rattle.text_lines.specs.declared.command.Task.{Task}
 use Rattle.text_lines.specs.declared.command.Values.{Values}
-use Rattle.text_lines.specs.declared.fault.LineFault.{LineFault}
-use Rattle.text_lines.specs.Fault.{◌>>=◌}
-use Rattle.text_lines.specs.Call.{calls_of, named}
 use Rattle.text_lines.specs.Command.{find, verbs, with_these, task_by, task_if, task_of, party_of, command_of}
-use Rattle.text_lines.specs.Lexer.{number_within}
 use Rattle.text_lines.specs.Numerals.{Numerals, ReadsValues}
 use Rattle.text_lines.proofs.FaultLaws.{ok_is, bind_ok}
 

@@ -1,7 +1,5 @@
 -- Steps that may fail with a fault of a line.
-use Rattle.text_lines.proofs.Names.{arith, nat_tests, eqb-true, eqb-false, ◌≡◌, Result, Ok}
-use Rattle.text_lines.specs.declared.fault.LineFault.{LineFault}
-use Rattle.text_lines.specs.Fault.{◌>>=◌}
+use Rattle.text_lines.proofs.Names.{arith, nat_tests, eqb-true, eqb-false, ◌≡◌, Result, Ok, LineFault, ◌>>=◌}
 
 abbrev ok_of : {A : Type 0} → A → Result A LineFault
 ok_of x = Ok x

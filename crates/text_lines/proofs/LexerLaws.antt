@@ -1,11 +1,7 @@
 -- Lines and words cut from the front, and numbers read digit by digit, are those of the definitions.
-use Rattle.std.proofs.lemmas.Bool.{eqb-true, eqb-false}
-use Rattle.std.proofs.lemmas.Bool.Decides.{nat_tests}
-use Rattle.text_lines.specs.Names.{is_ascii_digit}
-use Rattle.text_lines.proofs.Names.{◌≡◌, ◌≢◌, ℕ, suc, ◌+◌, ◌*◌, ◌-◌, ◌<◌, ◌≤◌, Bool, true, false, ◌&&◌, ◌==◌, eqb, ltb, cond, not, List, [], ◌∷◌, ◌++◌, length, get_or, take, drop, Option, Some, None, refl, sym, ap, ◌∙◌, arith, add-one, drop-cons, le-ltb, lt-ltb}
+use Rattle.text_lines.proofs.Names.{◌≡◌, ◌≢◌, ℕ, suc, ◌+◌, ◌*◌, ◌-◌, ◌<◌, ◌≤◌, Bool, true, false, ◌&&◌, ◌==◌, eqb, ltb, cond, not, List, [], ◌∷◌, ◌++◌, length, get_or, take, drop, Option, Some, None, refl, sym, ap, ◌∙◌, arith, add-one, drop-cons, le-ltb, lt-ltb, eqb-true, eqb-false, nat_tests, is_ascii_digit, lines_of, onto_line, cut_line, words_of, is_blank, onto_word, before_bytes, number_from, fitting}
 use Rattle.std.proofs.lemmas.List.{take_all, drop_all, length-drop}
 use Rattle.std.specs.List.{position, position_or_len}
-use Rattle.text_lines.specs.Lexer.{lines_of, onto_line, cut_line, words_of, is_blank, onto_word, before_bytes, number_from, fitting}
 
 -- Before the first element that passes, and from it on.
 

@@ -1,15 +1,12 @@
 -- What a word writes is a value of the type, and what is printed of a value writes it.
-use Rattle.std.proofs.Common.{◌≡◌, refl, sym, ap, ◌∙◌, ℕ, suc, ◌+◌, ◌*◌, ◌/◌, ◌%◌, ◌^◌, ◌-◌, ◌<◌, ◌≤◌, ◌==◌, Bool, true, false, ◌&&◌, cond, leb, List, [], ◌∷◌, ◌++◌, Option, Some, None, Ok, Err, subst, arith}
-use Rattle.std.proofs.lemmas.Bool.{leb-true, ltb-true, eqb-true, eqb-false}
+use Rattle.std.proofs.Common.{◌≡◌, ap, ◌∙◌, ℕ, suc, ◌+◌, ◌*◌, ◌/◌, ◌%◌, ◌^◌, ◌-◌, ◌<◌, ◌≤◌, Bool, true, false, cond, List, [], ◌∷◌, ◌++◌, Option, Some, None, Ok, subst, arith}
+use Rattle.std.proofs.lemmas.Bool.{eqb-true, eqb-false}
 use Rattle.std.proofs.lemmas.Bool.Decides.{nat_tests}
 use Rattle.std.proofs.lemmas.Fmt.{decimal_by_steps_wide}
-use Rattle.std.proofs.Math.Facts.{sfits_to_z}
 use Rattle.text_lines.specs.Names.{ℤ, pos, negsuc, is_ascii_digit, decimal, signed_decimal, IsValue, span, high_bits, joined, arithmetic_of, unsigned, signed, width_of, fits_signed}
-use Rattle.std.specs.Int.{cast_unsigned, cast_signed}
 use Rattle.std.specs.Int.RustNames.{FitsSigned}
 use Rattle.std.specs.Int.Signed.{mag}
 use Rattle.model_events.specs.IntegerLaws.{unsigned_value, signed_value}
-use Rattle.text_lines.specs.declared.fault.LineFault.{LineFault}
 use Rattle.text_lines.specs.Lexer.{in_range, number_from, number_of, number_within, with_sign, signed_of, fitting_signed, or_bad_number}
 use Rattle.text_lines.specs.Numerals.{ReadsValues, ReadsItsOwn, unsigned_numerals, signed_numerals}
 

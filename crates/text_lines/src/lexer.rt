@@ -80,19 +80,10 @@ pub fn is(word: &[u8], name: &[u8]) -> bool
 fn number(word: &[u8]) -> Option<u64>
     ensures { result ≡ meaning.fitting (2 ^ 64) (meaning.number_of word.now) }
 {
-    if word.is_empty() {
-        return None;
+    match u64::try_from(wide_number(word)?) {
+        Ok(number) => Some(number),
+        Err(_) => None,
     }
-    let mut number: u64 = 0;
-    for byte in word {
-        if !byte.is_ascii_digit() {
-            return None;
-        }
-        number = number
-            .checked_mul(10)?
-            .checked_add(u64::from(*byte - b'0'))?;
-    }
-    Some(number)
 }
 
 /// The number of a word of decimal digits, where it fits 128 bits.

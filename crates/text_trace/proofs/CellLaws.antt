@@ -1,7 +1,5 @@
 -- The words of an object are printed in two pieces.
-use Rattle.text_trace.specs.Names.{decimal, Event, Object, Word, Arithmetic, word_in, further_words, Numerals}
-use Rattle.text_trace.proofs.Names.{arith, nat_tests, eqb-true, eqb-false, ◌≡◌, ◌∙◌, ap, ℕ, List, ◌++◌, Result, Ok, Err, OnOk, append_assoc}
-use Rattle.text_trace.specs.Cells.{words_text}
+use Rattle.text_trace.proofs.Names.{arith, nat_tests, eqb-true, eqb-false, ◌≡◌, ◌∙◌, ap, ℕ, List, ◌++◌, Result, Ok, Err, OnOk, append_assoc, decimal, Event, Object, Word, Arithmetic, word_in, further_words, Numerals, words_text}
 
 module _ {T : Type 0} (z : Arithmetic T) (numerals : Numerals T) where
   pub words_printed :

@@ -1,14 +1,9 @@
 -- Rows, one more at a time.
-use Rattle.text_trace.specs.Names.{take-map, bytes_eq}
-use Rattle.text_trace.proofs.Names.{nat_tests, eqb-true, eqb-false, ◌≡◌, ℕ, zero, suc, ◌+◌, ◌-◌, ◌^◌, ◌<◌, ◌≤◌, min, Bool, true, false, refl, sym, ◌∙◌, ap, subst, List, [], ◌∷◌, ◌++◌, length, take, get_or, append_assoc, Option, Some, None, arith, take_more, map-append, append-nil, length-map}
+use Rattle.text_trace.proofs.Names.{nat_tests, eqb-true, eqb-false, ◌≡◌, ℕ, zero, suc, ◌+◌, ◌-◌, ◌^◌, ◌<◌, ◌≤◌, min, Bool, true, false, refl, sym, ◌∙◌, ap, subst, List, [], ◌∷◌, ◌++◌, length, take, get_or, append_assoc, Option, Some, None, arith, take_more, map-append, append-nil, length-map, take-map, bytes_eq, Row, Texts, texts_of, Entry, entry_of, entries, read_same, number_after, alone, longer, joined, added, added_often, folded, trimmed, trimmed_to, cell, columns_of, head, line_text, widened, widened_by, widths_of, row_line, row_lines, table}
 use Rattle.std.proofs.lemmas.List.Concat.{flat_map-append}
 use Rattle.std.proofs.lemmas.Slice.Eq.{bytes_eq-Decides}
-use Rattle.text_trace.specs.declared.rows.Row.{Row}
 use Rattle.text_trace.specs.declared.table.Line.{Line}
 use Rattle.text_trace.specs.declared.table.Widths.{Widths}
-use Rattle.text_trace.specs.Cells.{Texts, texts_of}
-use Rattle.text_trace.specs.Rows.{Entry, entry_of, entries, read_same, number_after, alone, longer, joined, added, added_often, folded, trimmed, trimmed_to}
-use Rattle.text_trace.specs.Table.{cell, columns_of, head, line_text, widened, widened_by, widths_of, row_line, row_lines, table}
 
 -- a text is itself
 same_bytes : (bytes : List ℕ) → bytes_eq bytes bytes ≡ true

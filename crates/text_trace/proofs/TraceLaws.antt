@@ -1,15 +1,10 @@
 -- The rows of a walk, one more step at a time.
-use Rattle.text_trace.specs.Names.{replicate, Event, Object, Arithmetic, after, Configuration, StandsAt, is_quiet, IsQuiet, Header, lines_of, FaultyLine, Step, events_in, Walk, steps_then, nothing, go_walk, lines_walk, opened, rest_walk, after_times, IsNextStride, Numerals}
-use Rattle.text_trace.proofs.Names.{nat_tests, eqb-true, eqb-false, ◌≡◌, ℕ, zero, suc, ◌<◌, true, IfSome, arith, ◌++◌, refl, sym, ◌∙◌, ap, subst, List, [], ◌∷◌, Option, Some, None, Result, Ok, Err}
+use Rattle.text_trace.proofs.Names.{nat_tests, eqb-true, eqb-false, ◌≡◌, ℕ, zero, suc, ◌<◌, true, IfSome, arith, ◌++◌, refl, sym, ◌∙◌, ap, subst, List, [], ◌∷◌, Option, Some, None, Result, Ok, Err, replicate, Event, Object, Arithmetic, after, Configuration, StandsAt, is_quiet, IsQuiet, Header, lines_of, FaultyLine, Step, events_in, Walk, steps_then, nothing, go_walk, lines_walk, opened, rest_walk, after_times, IsNextStride, Numerals, Row, Texts, cells_at, Entry, entries, added, added_often, trimmed_to, table}
 use Rattle.sync_play.specs.declared.walk.Rest.{Rest}
 use Rattle.sync_play.specs.declared.walk.Stride.{Stride}
 use Rattle.sync_play.proofs.PlayLaws.{events_then, fault_then}
 use Rattle.sync_play.proofs.TextLaws.{after_both}
-use Rattle.text_trace.specs.declared.rows.Row.{Row}
-use Rattle.text_trace.specs.Cells.{Texts, cells_at}
-use Rattle.text_trace.specs.Rows.{Entry, entries, added, added_often, trimmed_to}
 use Rattle.text_trace.specs.declared.trace.Rows.{Rows}
-use Rattle.text_trace.specs.Table.{table}
 use Rattle.text_trace.proofs.QuietLaws.{cells_again, cells_after}
 use Rattle.text_trace.proofs.RowLaws.{trimmed_folded}
 use Rattle.text_trace.specs.Trace.{rows_with, cells_along, HasAdded, RowsAndFault, rows_of_walk, rows_of_opened, rows_of, AreRowsOf, HasPlayed, Written, typed_trace}

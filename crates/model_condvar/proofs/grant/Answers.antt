@@ -1,6 +1,4 @@
-use Rattle.model_condvar.specs.Names.{Call, mutex_grant}
-use Rattle.model_condvar.proofs.Names.{◌≡◌, ◌≢◌, ◌∙◌, ℕ, refl}
-use Rattle.model_condvar.specs.Table.{condvar_grant}
+use Rattle.model_condvar.proofs.Names.{◌≡◌, ◌≢◌, ◌∙◌, ℕ, refl, Call, mutex_grant, condvar_grant}
 use Rattle.model_condvar.proofs.grant.Goals as goal
 
 of_others : {T : Type 0} (call : Call T) (from to : ℕ) → call ≢ Call.Wait → mutex_grant call from to ≡ condvar_grant call from to

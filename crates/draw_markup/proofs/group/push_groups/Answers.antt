@@ -1,8 +1,5 @@
-use Rattle.draw_markup.proofs.Trees.{groups_begin, groups_more, groups_all}
+use Rattle.draw_markup.proofs.Trees.{groups_more, groups_all}
 use Rattle.draw_markup.proofs.group.push_groups.Goals as goal
-
-pub loop-group-init : goal.loop-group-init
-loop-group-init c = λ titles h. groups_begin titles c.args.groups.now _ h
 
 pub loop-group-preserved : goal.loop-group-preserved
 loop-group-preserved c =

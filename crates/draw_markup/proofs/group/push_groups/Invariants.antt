@@ -1,7 +1,4 @@
-use Rattle.std.proofs.Common.{ℕ, ◌++◌, List, take}
-use Rattle.std.specs.Prelude.{string_bytes}
-use Rattle.draw_markup.specs.Group.{titles_of}
-use Rattle.draw_markup.specs.Tree.{IsMarkup}
+use Rattle.draw_markup.proofs.Names.{ℕ, ◌++◌, List, take, string_bytes, titles_of, IsMarkup}
 use Rattle.draw_markup.proofs.group.push_groups.Given as goal
 
 abbrev pub invariant-loop-group : goal.invariant-loop-group

@@ -1,11 +1,6 @@
-use Rattle.std.proofs.Common.{◌++◌, ◌∙◌, ℕ, List, ap, sym}
+use Rattle.draw_markup.proofs.Names.{◌++◌, ◌∙◌, ℕ, List, ap, sym, map-id, encodes-chars, flat_map, string_bytes, shown}
 use Rattle.std.proofs.lemmas.Iterator.{YieldsList-from_chars}
 use Rattle.std.proofs.lemmas.Iterator.Consumers.{YieldsList-end}
-use Rattle.std.proofs.lemmas.List.{map-id}
-use Rattle.std.proofs.lemmas.Str.{encodes-chars}
-use Rattle.std.specs.List.{flat_map}
-use Rattle.std.specs.Prelude.{string_bytes}
-use Rattle.draw_markup.specs.Tree.{shown}
 use Rattle.draw_markup.proofs.words.push_words.Goals as goal
 
 pub returns-clause-shown : goal.returns-clause-shown

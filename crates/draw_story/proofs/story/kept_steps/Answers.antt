@@ -1,7 +1,5 @@
-use Rattle.std.proofs.Common.{◌≡◌, List, IfOk, map, subst}
-use Rattle.text_trace.specs.Rows.{Entry}
+use Rattle.draw_story.proofs.Names.{◌≡◌, List, IfOk, map, subst, Entry, shown_of, shown_at}
 use Rattle.draw_story.proofs.StoryLaws.{keeps, kept_fits}
-use Rattle.draw_story.specs.Story.{shown_of, shown_at}
 use Rattle.draw_story.proofs.story.kept_steps.Goals as goal
 
 pub steps_of-requires : goal.steps_of-requires

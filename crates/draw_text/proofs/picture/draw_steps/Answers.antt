@@ -1,11 +1,8 @@
-use Rattle.std.proofs.Common.{◌≡◌, ◌+◌, ◌∙◌, sym, ap, subst, List, take, arith}
+use Rattle.draw_text.proofs.Names.{◌≡◌, ◌+◌, ◌∙◌, sym, ap, subst, List, take, arith, titles_of, step_titles, one_more}
 use Rattle.std.proofs.lemmas.List.{take_all}
 use Rattle.std.specs.Prelude.{string_bytes}
 use Rattle.draw_markup.specs.declared.group.Group.{Group}
-use Rattle.draw_markup.specs.Group.{titles_of}
 use Rattle.draw_story.specs.declared.story.StoryStep.{StoryStep}
-use Rattle.draw_text.specs.Picture.{step_titles}
-use Rattle.draw_story.proofs.StoryLaws.{one_more}
 use Rattle.draw_text.proofs.picture.draw_steps.Goals as goal
 
 pub loop-step-preserved : goal.loop-step-preserved

@@ -1,6 +1,4 @@
-use Rattle.std.proofs.Common.{◌≡◌, take}
-use Rattle.draw_markup.specs.Group.{titles_of}
-use Rattle.draw_text.specs.Picture.{step_titles}
+use Rattle.draw_text.proofs.Names.{◌≡◌, take, titles_of, step_titles}
 use Rattle.draw_text.proofs.picture.draw_steps.Given as goal
 
 abbrev pub invariant-loop-step : goal.invariant-loop-step

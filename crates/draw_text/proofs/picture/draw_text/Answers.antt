@@ -1,5 +1,4 @@
-use Rattle.std.proofs.Common.{rules}
-use Rattle.text_lines.specs.declared.value_type.ValueType.{ValueType}
+use Rattle.draw_text.proofs.Names.{rules, ValueType}
 use Rattle.draw_text.proofs.PictureLaws.{drawn_at}
 use Rattle.draw_text.proofs.picture.draw_text.Goals as goal
 

@@ -1,6 +1,4 @@
-use Rattle.std.proofs.Common.{subst, ℕ, List}
-use Rattle.draw_text.specs.Picture.{IsPicture}
-use Rattle.draw_story.proofs.StoryLaws.{titles_told, has_output}
+use Rattle.draw_text.proofs.Names.{subst, ℕ, List, IsPicture, titles_told, has_output}
 use Rattle.draw_text.proofs.picture.draw_typed.Goals as goal
 
 pub returns-clause-drawn : goal.returns-clause-drawn

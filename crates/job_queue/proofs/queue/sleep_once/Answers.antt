@@ -1,5 +1,4 @@
-use Rattle.std.proofs.Common.{refl}
-use Rattle.model_events.specs.declared.event.Answer.{Answer}
+use Rattle.job_queue.proofs.Names.{refl, Answer}
 use Rattle.job_queue.proofs.queue.sleep_once.Goals as goal
 
 -- what may answer Abort through the closure that passes on may answer it

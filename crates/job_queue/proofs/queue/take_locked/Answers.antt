@@ -1,10 +1,5 @@
-use Rattle.std.proofs.Common.{suc, refl, sym, subst, ◌∙◌, arith}
-use Rattle.running_model.specs.Passes.{parties_of}
-use Rattle.running_mutex.specs.MutexShown.{MutexPass, pass_of, HasStayed}
-use Rattle.running_mutex.specs.Often.{Often}
+use Rattle.job_queue.proofs.Names.{suc, refl, sym, subst, ◌∙◌, arith, parties_of, MutexPass, pass_of, HasStayed, Often, view, LocksAndUnlocks}
 use Rattle.running_mutex.proofs.Often.{waits_again, waits_no_more}
-use Rattle.running_spin_lock.specs.SpinShown.{view}
-use Rattle.job_queue.specs.Locked.{LocksAndUnlocks}
 use Rattle.job_queue.proofs.Locked.{stays, still_holds, locks_again, unlocks}
 use Rattle.job_queue.proofs.queue.take_locked.Goals as goal
 

@@ -1,9 +1,7 @@
-use Rattle.std.proofs.Common.{◌≡◌, ℕ}
+use Rattle.job_queue.proofs.Names.{◌≡◌, ℕ, Often, HasWaitedOften, HoldsAfter, GoesToTheState}
 use Rattle.running_mutex.specs.MutexShown.{pass_of, borrow_of, HasStayed as HasLockedAtMost}
 use Rattle.running_mutex.specs.CondShown.{HasStayed as HasWaitedAtMost}
-use Rattle.running_mutex.specs.Often.{Often, HasWaitedOften}
 use Rattle.running_spin_lock.specs.SpinShown.{view, HasStayed as HasSpunAtMost}
-use Rattle.job_queue.specs.Locked.{HoldsAfter, GoesToTheState}
 use Rattle.job_queue.proofs.queue.take_locked.Given as goal
 
 abbrev pub invariant-loop : goal.invariant-loop

@@ -1,5 +1,4 @@
-use Rattle.sync_play.specs.Names.{Command, Task}
-use Rattle.sync_play.proofs.Names.{◌≡◌, ◌<◌, refl, ap, ◌∙◌, arith, rules, tests, err_from_is_err_and}
+use Rattle.sync_play.proofs.Names.{◌≡◌, ◌<◌, refl, ap, ◌∙◌, arith, rules, tests, err_from_is_err_and, Command, Task}
 use Rattle.sync_play.proofs.WalkLaws.{turn_done, turn_limited, turn_given, turn_not_given, turn_strides, stride_refused}
 use Rattle.sync_play.proofs.player.next_events.Goals.{in-Go, in-Go-2}
 use Rattle.sync_play.proofs.player.next_events.Goals as goal

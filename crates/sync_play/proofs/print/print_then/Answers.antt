@@ -1,6 +1,4 @@
-use Rattle.sync_play.specs.Names.{codes, string_bytes, decimal}
-use Rattle.sync_play.proofs.Names.{◌∙◌, ap, ℕ, List, ◌++◌, append_assoc}
-use Rattle.sync_play.specs.Print.{answer_words}
+use Rattle.sync_play.proofs.Names.{◌∙◌, ap, ℕ, List, ◌++◌, append_assoc, codes, string_bytes, decimal, answer_words}
 use Rattle.sync_play.proofs.PrintLaws.{pushed, printed_after, line_printed}
 use Rattle.sync_play.proofs.print.print_then.Goals as goal
 

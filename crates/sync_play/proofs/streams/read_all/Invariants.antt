@@ -1,5 +1,4 @@
-use Rattle.sync_play.specs.Names.{Consumes}
-use Rattle.sync_play.proofs.Names.{◌^◌, ◌-◌, vec_len}
+use Rattle.sync_play.proofs.Names.{◌^◌, ◌-◌, vec_len, Consumes}
 use Rattle.sync_play.proofs.streams.read_all.Given as goal
 
 abbrev pub invariant-loop-text : goal.invariant-loop-text

@@ -1,5 +1,4 @@
-use Rattle.sync_play.specs.Names.{lines_of}
-use Rattle.sync_play.proofs.Names.{◌∙◌, ap, [], ℕ, Vec, err_from_is_err_and}
+use Rattle.sync_play.proofs.Names.{◌∙◌, ap, [], ℕ, Vec, err_from_is_err_and, lines_of}
 use Rattle.sync_play.proofs.PlayLaws.{opens_none, faults_so, text_is_printed}
 use Rattle.sync_play.proofs.text.play_typed.Goals as goal
 

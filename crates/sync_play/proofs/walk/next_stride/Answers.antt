@@ -1,7 +1,5 @@
-use Rattle.sync_play.specs.Names.{Object, lines_of, words_of}
-use Rattle.sync_play.proofs.Names.{◌∙◌, ap, refl, rules, arith, ◌+◌}
+use Rattle.sync_play.proofs.Names.{◌∙◌, ap, refl, rules, arith, ◌+◌, Object, lines_of, words_of, asked}
 use Rattle.std.proofs.Math.Nat.{le_refl}
-use Rattle.sync_play.specs.Walk.{asked}
 use Rattle.sync_play.proofs.WalkLaws.{walk_strides, walk_stands, walk_stops, walk_passes, pass_stands, lines_end, lines_go_on, lines_stop, fewer_left, fewer_steps}
 use Rattle.sync_play.proofs.walk.next_stride.Goals as goal
 

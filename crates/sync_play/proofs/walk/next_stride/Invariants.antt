@@ -1,6 +1,4 @@
-use Rattle.sync_play.specs.Names.{StandsAt, Event, Object}
-use Rattle.sync_play.proofs.Names.{◌≡◌, ◌+◌, ◌^◌, ◌<◌, ◌≤◌, ℕ, List, length}
-use Rattle.sync_play.specs.Walk.{rest_walk, most_steps}
+use Rattle.sync_play.proofs.Names.{◌≡◌, ◌+◌, ◌^◌, ◌<◌, ◌≤◌, ℕ, List, length, StandsAt, Event, Object, rest_walk, most_steps}
 use Rattle.sync_play.proofs.walk.next_stride.Given as goal
 
 abbrev pub invariant-loop-found : goal.invariant-loop-found

@@ -1,5 +1,4 @@
-use Rattle.text_lines.proofs.Names.{◌≡◌, drop}
-use Rattle.text_lines.specs.Call.{named}
+use Rattle.text_lines.proofs.Names.{◌≡◌, drop, named}
 use Rattle.text_lines.proofs.call.named.Given as goal
 
 -- the calls so far have other names

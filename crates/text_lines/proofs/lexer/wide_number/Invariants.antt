@@ -1,5 +1,4 @@
-use Rattle.text_lines.proofs.Names.{◌≡◌, ◌<◌, ◌^◌, drop}
-use Rattle.text_lines.specs.Lexer.{fitting, number_of, number_from}
+use Rattle.text_lines.proofs.Names.{◌≡◌, ◌<◌, ◌^◌, drop, fitting, number_of, number_from}
 use Rattle.text_lines.proofs.lexer.wide_number.Given as goal
 
 abbrev pub invariant-loop-byte : goal.invariant-loop-byte

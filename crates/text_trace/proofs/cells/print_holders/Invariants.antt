@@ -1,6 +1,4 @@
-use Rattle.text_trace.specs.Names.{string_bytes, Event, StandsAt}
-use Rattle.text_trace.proofs.Names.{◌≡◌, ◌≤◌, List}
-use Rattle.text_trace.specs.Cells.{holders}
+use Rattle.text_trace.proofs.Names.{◌≡◌, ◌≤◌, List, string_bytes, Event, StandsAt, holders}
 use Rattle.text_trace.proofs.cells.print_holders.Given as goal
 
 abbrev pub invariant-loop-party : goal.invariant-loop-party

@@ -1,5 +1,4 @@
-use Rattle.text_trace.proofs.Names.{◌≡◌, ◌<◌, ◌^◌, [], refl, arith, rules}
-use Rattle.text_trace.specs.Cells.{texts_of}
+use Rattle.text_trace.proofs.Names.{◌≡◌, ◌<◌, ◌^◌, [], refl, arith, rules, texts_of}
 use Rattle.text_trace.proofs.RowLaws.{added_first, added_to_last, added_alone}
 use Rattle.text_trace.proofs.rows.add.Goals as goal
 

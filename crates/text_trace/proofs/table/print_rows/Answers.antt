@@ -1,8 +1,4 @@
-use Rattle.text_trace.specs.Names.{string_bytes}
-use Rattle.text_trace.proofs.Names.{◌∙◌, ◌++◌, ap, List, arith, take_all}
-use Rattle.text_trace.specs.declared.rows.Row.{Row}
-use Rattle.text_trace.specs.Rows.{entries}
-use Rattle.text_trace.specs.Table.{row_lines}
+use Rattle.text_trace.proofs.Names.{◌∙◌, ◌++◌, ap, List, arith, take_all, string_bytes, Row, entries, row_lines}
 use Rattle.text_trace.proofs.RowLaws.{printed_more}
 use Rattle.text_trace.proofs.table.print_rows.Goals as goal
 

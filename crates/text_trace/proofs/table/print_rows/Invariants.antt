@@ -1,7 +1,4 @@
-use Rattle.text_trace.specs.Names.{string_bytes}
-use Rattle.text_trace.proofs.Names.{◌≡◌, ◌++◌, take}
-use Rattle.text_trace.specs.Rows.{entries}
-use Rattle.text_trace.specs.Table.{row_lines}
+use Rattle.text_trace.proofs.Names.{◌≡◌, ◌++◌, take, string_bytes, entries, row_lines}
 use Rattle.text_trace.proofs.table.print_rows.Given as goal
 
 abbrev pub invariant-loop-row : goal.invariant-loop-row

@@ -1,5 +1,4 @@
-use Rattle.text_trace.specs.Names.{string_bytes, replicate}
-use Rattle.text_trace.proofs.Names.{◌≡◌, ◌++◌, ◌≤◌}
+use Rattle.text_trace.proofs.Names.{◌≡◌, ◌++◌, ◌≤◌, string_bytes, replicate}
 use Rattle.text_trace.proofs.table.print_spaces.Given as goal
 
 abbrev pub invariant-loop-index : goal.invariant-loop-index

@@ -1,7 +1,4 @@
-use Rattle.text_trace.proofs.Names.{◌∙◌, ap, List, arith, take_all}
-use Rattle.text_trace.specs.declared.rows.Row.{Row}
-use Rattle.text_trace.specs.Rows.{entries}
-use Rattle.text_trace.specs.Table.{titles, widened_by}
+use Rattle.text_trace.proofs.Names.{◌∙◌, ap, List, arith, take_all, Row, entries, titles, widened_by}
 use Rattle.text_trace.proofs.RowLaws.{widened_more}
 use Rattle.text_trace.proofs.table.widths_of.Goals as goal
 

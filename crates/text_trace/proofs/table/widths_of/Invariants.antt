@@ -1,6 +1,4 @@
-use Rattle.text_trace.proofs.Names.{◌≡◌, take}
-use Rattle.text_trace.specs.Rows.{entries}
-use Rattle.text_trace.specs.Table.{titles, widened_by}
+use Rattle.text_trace.proofs.Names.{◌≡◌, take, entries, titles, widened_by}
 use Rattle.text_trace.proofs.table.widths_of.Given as goal
 
 abbrev pub invariant-loop-row : goal.invariant-loop-row

@@ -1,5 +1,4 @@
-use Rattle.text_trace.proofs.Names.{rules}
-use Rattle.text_trace.specs.Cells.{texts_of}
+use Rattle.text_trace.proofs.Names.{rules, texts_of}
 use Rattle.text_trace.proofs.TraceLaws.{goes_on}
 use Rattle.text_trace.proofs.trace.add_steps.Goals as goal
 

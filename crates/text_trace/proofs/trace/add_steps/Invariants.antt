@@ -1,5 +1,4 @@
-use Rattle.text_trace.specs.Names.{Event, StandsAt, most_steps}
-use Rattle.text_trace.proofs.Names.{◌+◌, ◌^◌, ◌<◌, List, length}
+use Rattle.text_trace.proofs.Names.{◌+◌, ◌^◌, ◌<◌, List, length, Event, StandsAt, most_steps}
 use Rattle.text_trace.proofs.TraceLaws.{IsHalfway}
 use Rattle.text_trace.proofs.trace.add_steps.Given as goal
 

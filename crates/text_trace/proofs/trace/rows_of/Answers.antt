@@ -1,5 +1,4 @@
-use Rattle.text_trace.specs.Names.{lines_of}
-use Rattle.text_trace.proofs.Names.{[]}
+use Rattle.text_trace.proofs.Names.{[], lines_of}
 use Rattle.text_trace.proofs.TraceLaws.{opens_none, rows_read}
 use Rattle.text_trace.proofs.trace.rows_of.Goals as goal
 

@@ -1,5 +1,4 @@
-use Rattle.text_trace.specs.Names.{lines_of}
-use Rattle.text_trace.proofs.Names.{ap, ℕ, Vec, Global}
+use Rattle.text_trace.proofs.Names.{ap, ℕ, Vec, Global, lines_of}
 use Rattle.text_trace.proofs.TraceLaws.{written_so}
 use Rattle.text_trace.proofs.trace.trace_typed.Goals as goal
 

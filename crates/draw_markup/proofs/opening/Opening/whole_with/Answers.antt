@@ -1,6 +1,5 @@
-use Rattle.std.proofs.Common.{[]}
+use Rattle.draw_markup.proofs.Names.{[], titles_of}
 use Rattle.draw_markup.proofs.Trees.{markup_same, markup_around}
-use Rattle.draw_markup.specs.Group.{titles_of}
 use Rattle.draw_markup.proofs.opening.Opening.whole_with.Goals as goal
 
 pub returns : goal.returns

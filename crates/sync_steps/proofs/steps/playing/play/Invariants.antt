@@ -1,6 +1,5 @@
-use Rattle.sync_steps.proofs.Names.{◌≡◌, ◌≤◌, length, take, vec_len}
+use Rattle.sync_steps.proofs.Names.{◌≡◌, ◌≤◌, length, take, vec_len, Plays}
 use Rattle.std.specs.Vec.{vec_capacity}
-use Rattle.sync_steps.specs.Machine.{Plays}
 use Rattle.sync_steps.proofs.steps.playing.play.Given as goal
 
 -- what was played so far, and that there is room for the rest

@@ -1,10 +1,4 @@
-use Rattle.sync_steps.specs.Names.{Act, Object, Then, Word, HoldKind, After, Intent, Arithmetic, carried_out, value_told, outcome_of}
-use Rattle.sync_steps.proofs.Names.{◌≡◌, ℕ, sym, ◌∙◌, false, is_some, Option, Some, Ok}
-use Rattle.sync_steps.specs.declared.steps.place.Doing.{Doing}
-use Rattle.sync_steps.specs.declared.steps.place.Party.{Party}
-use Rattle.sync_steps.specs.declared.steps.place.Place.{Place}
-use Rattle.sync_steps.specs.Machine.Places.{intent_at, after_at}
-use Rattle.sync_steps.specs.Machine.Turns.{new_hold, moved_on, go_turn}
+use Rattle.sync_steps.proofs.Names.{◌≡◌, ℕ, sym, ◌∙◌, false, is_some, Option, Some, Ok, Act, Object, Then, Word, HoldKind, After, Intent, Arithmetic, carried_out, value_told, outcome_of, Doing, Party, Place, intent_at, after_at, new_hold, moved_on, go_turn}
 use Rattle.sync_steps.proofs.steps.turn.go.Goals as goal
 
 -- the step, by what each call in it answers

@@ -1,6 +1,4 @@
-use Rattle.sync_steps.specs.Names.{Word}
-use Rattle.sync_steps.proofs.Names.{◌∙◌, ap}
-use Rattle.sync_steps.specs.Machine.{Configuration}
+use Rattle.sync_steps.proofs.Names.{◌∙◌, ap, Word, Configuration}
 use Rattle.sync_steps.proofs.Stands.{absent_at}
 use Rattle.sync_steps.proofs.steps.machine.Machine.low_high.Goals as goal
 

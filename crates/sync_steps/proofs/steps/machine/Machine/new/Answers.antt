@@ -1,5 +1,4 @@
-use Rattle.sync_steps.proofs.Names.{refl, None}
-use Rattle.sync_steps.specs.declared.steps.place.Party.{Party}
+use Rattle.sync_steps.proofs.Names.{refl, None, Party}
 use Rattle.sync_steps.proofs.Stands.{stands_first}
 use Rattle.sync_steps.proofs.steps.machine.Machine.new.Goals as goal
 

@@ -1,5 +1,4 @@
-use Rattle.sync_steps.proofs.Names.{◌∙◌, ap}
-use Rattle.sync_steps.specs.Machine.{Configuration}
+use Rattle.sync_steps.proofs.Names.{◌∙◌, ap, Configuration}
 use Rattle.sync_steps.proofs.Stands.{party_at, beyond_at}
 use Rattle.sync_steps.proofs.steps.machine.Machine.party.Goals as goal
 

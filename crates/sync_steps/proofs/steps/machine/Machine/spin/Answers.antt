@@ -1,7 +1,4 @@
-use Rattle.sync_steps.specs.Names.{Then, event}
-use Rattle.sync_steps.proofs.Names.{◌<◌, refl, sym, ap, subst, ◌∙◌, length, Some, slice_set, arith, slice_get-get_or}
-use Rattle.sync_steps.specs.Machine.{Configuration}
-use Rattle.sync_steps.specs.Machine.Strides.{HasSpun}
+use Rattle.sync_steps.proofs.Names.{◌<◌, refl, sym, ap, subst, ◌∙◌, length, Some, slice_set, arith, slice_get-get_or, Then, event, Configuration, HasSpun}
 use Rattle.sync_steps.proofs.steps.machine.Machine.spin.Goals as goal
 
 pub returns : goal.returns

@@ -1,6 +1,4 @@
-use Rattle.sync_steps.specs.Names.{Input}
-use Rattle.sync_steps.proofs.Names.{◌≡◌, ℕ, ◌<◌, length, arith, rules}
-use Rattle.sync_steps.specs.Machine.{Configuration}
+use Rattle.sync_steps.proofs.Names.{◌≡◌, ℕ, ◌<◌, length, arith, rules, Input, Configuration}
 use Rattle.sync_steps.proofs.Stands.{turns_step, turns_headline, turns_fault}
 use Rattle.sync_steps.proofs.steps.machine.Machine.step.Goals as goal
 
@@ -63,6 +61,3 @@ returns-in-Choose-clause-headline g c =
 pub returns-in-Choose-clause-fault : goal.returns-in-Choose-clause-fault
 returns-in-Choose-clause-fault g c =
     turns_fault g.T.AtomicInteger.arithmetic c.args.party c.args.input (Input.Choose c.in-Choose.choice) c.args.self.now c.choose.result (there c.self.view_is (omega arith)) c.in-Choose.is c.choose.ensures.fault
-
-pub returns-then-party-len-clause-err : goal.returns-then-party-len-clause-err
-returns-then-party-len-clause-err g c = search rules

@@ -1,6 +1,4 @@
-use Rattle.sync_steps.proofs.Names.{subst}
-use Rattle.sync_steps.specs.Machine.{Configuration}
-use Rattle.sync_steps.specs.Machine.Strides.{Strides}
+use Rattle.sync_steps.proofs.Names.{subst, Configuration, Strides}
 use Rattle.sync_steps.proofs.StrideLaws.{spins_stride, step_strides}
 use Rattle.sync_steps.proofs.steps.machine.Machine.stride.Goals as goal
 

@@ -1,8 +1,0 @@
-use Rattle.model_barrier.proofs.Names.{rules}
-use Rattle.model_barrier.proofs.look.Goals as goal
-
-pub returns-in-Some : goal.returns-in-Some
-returns-in-Some g c = search rules
-
-pub returns-in-None : goal.returns-in-None
-returns-in-None g c = search rules

@@ -1,5 +1,0 @@
-use Rattle.std.proofs.Common.{rules}
-use Rattle.model_events.proofs.row.After.outcome.Goals as goal
-
-pub returns-in-Waits : goal.returns-in-Waits
-returns-in-Waits g c = search rules

@@ -1,5 +1,0 @@
-use Rattle.std.proofs.Common.{rules}
-use Rattle.model_events.proofs.words.Words.carry_out.Goals as goal
-
-pub returns-in-Exchange : goal.returns-in-Exchange
-returns-in-Exchange g c = search rules
