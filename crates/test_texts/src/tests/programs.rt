@@ -75,11 +75,13 @@ pub struct Explores;
 
 impl Program for Explores {
     fn run<R: Read, W: Write>(alloc: Global, reader: &mut R, writer: &mut W) -> Ended {
-        match explore_text::run::run(alloc, reader, writer, &mut Unwatched) {
+        match explore_client::run::run(alloc, reader, writer, &mut Unwatched) {
             Ok(_) => Ended::Whole,
-            Err(ExploreFault::Read) => Ended::Reading,
-            Err(ExploreFault::Write) => Ended::Writing,
-            Err(_) => Ended::Other,
+            Err(unanswered) => match unanswered.fault {
+                ExploreFault::Read => Ended::Reading,
+                ExploreFault::Write => Ended::Writing,
+                ExploreFault::Line { .. } | ExploreFault::Search(_) => Ended::Other,
+            },
         }
     }
 }

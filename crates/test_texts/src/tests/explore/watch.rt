@@ -1,8 +1,8 @@
 //! What no question can say: what a watch of the search is told. Questions with their answers stand in `texts/sync-explore`.
 
+use explore_client::run::run;
 use explore_search::watch::Watch;
 use explore_text::report::Verdict;
-use explore_text::run::run;
 use std::test::Fail;
 
 /// What it was told last, and how often it was told.
