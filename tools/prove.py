@@ -134,10 +134,10 @@ class Shelf:
         return shutil.disk_usage(self.folder).free
 
     def lacks(self, tasks):
-        """Why the disk has no room for what these tasks will prove, or nothing."""
+        """How much room the disk has for what these tasks will prove, where that is too little, or nothing."""
         new = [it.crate for it in tasks.values() if it.kind == "proofs" and not it.crate.is_program and not stamp_of(f"{self.folder}/{it.crate.name}")]
         wanted = sum(it.lines for it in new) * WRITTEN + SPARE * bool(new)
-        return f"the disk is full: {self.free() / 1e9:.1f} GB are free at {self.folder}, and {wanted / 1e9:.1f} are wanted" if self.free() < wanted else ""
+        return f"{self.free() / 1e9:.1f} GB are free at {self.folder}, and {wanted / 1e9:.1f} are wanted" if self.free() < wanted else ""
 
     def thin(self, lanes, names):
         """Takes away what was found of each function of these crates, of which nothing is left to do; others stand on the libraries alone."""
@@ -537,7 +537,9 @@ def main(words):
         fcntl.flock(held, fcntl.LOCK_EX)
     shelf = Shelf(f"{at}/proved", crates)
     if lacks := shelf.lacks(tasks):
-        sys.exit(lacks)
+        if shelf.free() < SPARE:
+            sys.exit(f"the disk is full: {lacks}")
+        print(f"{lacks}: what nothing needs any more is taken away", flush=True)
     lanes = [Lane(top, f"{at}/{number}", shelf) for number in range(max(1, min(asked.lanes, len(tasks))))]
     try:
         given = run_all(tasks, lanes, Progress(tasks))

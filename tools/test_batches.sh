@@ -1,7 +1,7 @@
 # The tool that proves and tries edits, on a crate of three functions and one test: what is no bug, what cannot be read, and what is refused for a name
 # alone, fails it and says so, beside wrong bodies in the same check; so do a test that fails and a crate that is not proved. Of three edits on which a
 # search gave up, over a checker that only pretends, two fail: one has no control, and that of the other is refused like it. What was proved is kept
-# from call to call, and does not serve another text. Where less of the disk is free than is wanted, nothing begins.
+# from call to call, and does not serve another text. Where next to nothing of the disk is free, nothing begins.
 test_batches() {
     local top=$room/batches crate=$room/batches/crates/sizes
     mkdir -p -- "$top/tools" "$crate/src" "$crate/proofs/no" "$crate/must-fail"
