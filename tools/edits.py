@@ -22,7 +22,7 @@ DEPENDS = re.compile(r"declarations? that depends? on `")
 # What says nothing of a contract: a proof misses a name that the edit took away. The kit's gate takes an edit for refused that has no other reason;
 # here it fails.
 NAME_GONE = re.compile(r"has no field|has no `|is not in scope|: module `[^`]*`$")
-# What says less than a search that tried every way. So the edit has a control beside it, a harmless change at the same place (NAME.control), that
+# What says less than a search that tried every way. So the edit has a control beside it, a harmless change at the same place (NAME.control.md), that
 # has to be proved: then the search gives up on the wrong body, and not on any that is changed there. One without shows nothing.
 GAVE_UP = re.compile(r"gave up at one of its limits|went on past its bounds|stopped at its own limit")
 AT_A_LIMIT = "SHOWS NOTHING without a control"
@@ -167,14 +167,16 @@ class Batches:
     def __init__(self, crate, names):
         self.crate = crate
         self.told, self.left, self.apart, self.most = {}, [], [], len(names)
-        # What refused each edit.
-        self.refusals = {}
+        # What refused each edit; and by the name of a control the edit that waits for it, with what was told of that.
+        self.refusals, self.waiting = {}, {}
         for name in names:
             try:
-                edit = Edit(crate, name)
-                (self.apart if edit.is_alone() else self.left).append(edit)
+                self.add(Edit(crate, name))
             except (BadEdit, OSError) as why:
                 self.told[name] = "BAD", str(why)
+
+    def add(self, edit):
+        (self.apart if edit.is_alone() else self.left).append(edit)
 
     def next(self):
         batch, taken = [], set()
@@ -192,17 +194,21 @@ class Batches:
         if batch[0].is_alone() or len(batch) == 1 and batch[0] in self.apart:
             self.apart = self.apart[1:]
             reasons = errors_of(said) + [it for own in goals.values() for it in own]
-            self.told[batch[0].name] = judged(batch[0], status, is_verdict, reasons, said)
-            self.refusals[batch[0].name] = refusal(clauses) or by_lemmas(said)
+            self.tell(batch[0], judged(batch[0], status, is_verdict, reasons, said), refusal(clauses) or by_lemmas(said))
             return
+        told = []
         for edit in batch:
             reasons = [it for name in edit.functions for it in goals.get(name, [])]
             if reasons:
-                self.told[edit.name] = judged(edit, status, True, reasons, said)
-                self.refusals[edit.name] = refusal({name: clauses[name] for name in sorted(edit.functions & clauses.keys())})
-        told = [it for it in batch if it.name in self.told]
+                refused_by = {name: clauses[name] for name in sorted(edit.functions & clauses.keys())}
+                self.tell(edit, judged(edit, status, True, reasons, said), refusal(refused_by))
+            elif status == 0 or is_verdict and edit.name in self.waiting and edit.functions <= proved_in(said):
+                self.tell(edit, judged(edit, 0, False, [], said))
+            else:
+                continue
+            told.append(edit)
         self.left = [it for it in self.left if it not in told]
-        if not is_verdict and len(batch) > 1:
+        if not told and not is_verdict and len(batch) > 1:
             # one of them kept the check from its end: in halves
             self.most = len(batch) // 2
         elif not told:
@@ -210,32 +216,31 @@ class Batches:
             self.left = [it for it in self.left if it not in batch]
             self.apart += batch
 
-    def controls(self):
-        """The controls of the edits of which it is told only that a search gave up, those of different functions together."""
-        groups = []
-        for name in [it for it, (kind, _) in self.told.items() if kind == AT_A_LIMIT]:
-            try:
-                control = Edit(self.crate, control_of(name))
-            except OSError:
-                continue
-            except BadEdit as why:
-                self.told[name] = "BAD", f"its control: {why}"
-                continue
-            apart = [it for it in groups if not any(control.functions & other.functions or control.is_alone() for other in it)]
-            (apart or groups.append([]) or groups[-1:])[0].append(control)
-        return groups
-
-    def judge_controls(self, group, is_proved):
-        """Takes whether the crate is proved with these controls in it, and returns the groups that are still to be tried."""
-        if not is_proved and len(group) > 1:
-            return [group[: len(group) // 2], group[len(group) // 2 :]]
-        for name in [it for it in self.told if control_of(it) in [control.name for control in group]]:
-            self.told[name] = ("refused", "and its control is proved") if is_proved else ("SHOWS NOTHING", f"{self.told[name][1]}; and its control is refused too")
-        return []
+    def tell(self, edit, what, refused_by=""):
+        """Takes what an edit or a control came to. An edit of which it is told only that a search gave up waits for its control."""
+        if edit.name in self.waiting:
+            name, why = self.waiting.pop(edit.name)
+            told = {"NOT REFUSED": ("refused", "and its control is proved"), "BAD": ("BAD", f"its control: {what[1]}")}
+            self.told[name] = told.get(what[0], ("SHOWS NOTHING", f"{why}; and its control is refused too"))
+            return
+        self.refusals[edit.name] = refused_by
+        control = edit.name.removesuffix(".edit") + ".control.md"
+        if what[0] != AT_A_LIMIT or not os.path.exists(f"{self.crate}/must-fail/{control}"):
+            self.told[edit.name] = what
+            return
+        try:
+            self.add(Edit(self.crate, control))
+            self.waiting[control] = edit.name, what[1]
+        except BadEdit as why:
+            self.told[edit.name] = "BAD", f"its control: {why}"
 
 
-def control_of(name):
-    return name.removesuffix(".edit") + ".control"
+def proved_in(said):
+    """The names of the functions that a check proved, but for those that stand in the path of one that it did not, as a closure's does."""
+    lines = re.findall(r"(?m)^fn (\S+): (.*)", said)
+    return {path.rpartition(":")[2] for path, what in lines if what == "proved"} - {
+        it for path, what in lines if what != "proved" for it in re.findall(r"\w+", path)
+    }
 
 
 def errors_of(said):

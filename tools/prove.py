@@ -41,6 +41,7 @@ REFUSED = re.compile(
     r"|^(?:\./)?(?:src|specs)/\S+ warning: this pattern binds a variable spelled like a constructor|^(?:\./)?(?:src|specs)/\S+: (?:note|warning): `search` stands in|^(?:\./)?proofs/\S+ note: `\S+` has chosen a term",
     re.M,
 )
+ONLY_TESTS = re.compile(r"(?://.*|#!?\[.*\]|mod tests;|\s)*")
 RESULT = re.compile(r"^test result: \w+\. (\d+) passed; (\d+) failed", re.M)
 # The bytes that a proof writes for a line of its library, and those that have to be free besides: 52,100 lines took 14.3 GB.
 WRITTEN, SPARE = 275_000, 3_000_000_000
@@ -63,6 +64,8 @@ class Crate:
         texts = [edits.text_of(it) for it in glob.glob(f"{self.folder}/src/**/*.rt", recursive=True)]
         self.lines = sum(it.count("\n") for it in texts)
         self.is_program = os.path.isfile(f"{self.folder}/src/main.rt")
+        # One of tests alone has no library: its tests are a program.
+        self.is_library = not self.is_program and not ONLY_TESTS.fullmatch(edits.text_of(f"{self.folder}/src/lib.rt"))
         self.has_tests = any("#[test]" in it for it in texts)
         self.edits = sorted(os.path.basename(it) for it in glob.glob(f"{self.folder}/must-fail/*.edit"))
 
@@ -135,7 +138,7 @@ class Shelf:
 
     def lacks(self, tasks):
         """How much room the disk has for what these tasks will prove, where that is too little, or nothing."""
-        new = [it.crate for it in tasks.values() if it.kind == "proofs" and not it.crate.is_program and not stamp_of(f"{self.folder}/{it.crate.name}")]
+        new = [it.crate for it in tasks.values() if it.kind == "proofs" and it.crate.is_library and not stamp_of(f"{self.folder}/{it.crate.name}")]
         wanted = sum(it.lines for it in new) * WRITTEN + SPARE * bool(new)
         return f"{self.free() / 1e9:.1f} GB are free at {self.folder}, and {wanted / 1e9:.1f} are wanted" if self.free() < wanted else ""
 
@@ -248,7 +251,7 @@ def prove(lane, crate, jobs):
     _, said = lane.run(crate, ["rt", "fmt"])
     if "formatted" in said:
         return Told(0, 1, "it is not laid out: rt fmt does so", said)
-    if crate.is_program:
+    if not crate.is_library:
         return Told(0)
     words = ["--jobs", str(jobs), "--empty-contracts"]
     status, said = lane.run(crate, ["rt", "lib", *words])
@@ -340,11 +343,6 @@ class Tries:
         while (batch := batches.next()) and time.time() < self.until:
             batches.judge(batch, *check(batch))
             checks += 1
-        groups = batches.controls()
-        while groups:
-            group = groups.pop()
-            groups += batches.judge_controls(group, check(group)[0] == 0)
-            checks += 1
         REFUSALS.update({f"{crate.name}/{name.removesuffix('.edit')}": why for name, why in batches.refusals.items() if why})
         wrong = {name: it for name, it in batches.told.items() if it[0] != "refused"}
         refused, left = len(batches.told) - len(wrong), len(crate.edits) - len(batches.told)
@@ -382,7 +380,7 @@ def tasks_of(wanted, crates, until):
     def add_proofs(names):
         for name in closed(names, crates):
             if ("proofs", name) not in tasks:
-                add("proofs", name, [("proofs", it) for it in crates[name].libraries], (120 + crates[name].lines) * (not crates[name].is_program), prove)
+                add("proofs", name, [("proofs", it) for it in crates[name].libraries], (120 + crates[name].lines) * crates[name].is_library, prove)
 
     for kind, names in wanted.items():
         chosen = [crates[it] for it in names or crates]

@@ -64,9 +64,9 @@ ANTT
     tries "edits of which two are wrong bodies" "edits tests" "4 passed, 4 failed" \
         "2 of its 6 edits are refused" "another_way.edit: NOT REFUSED" "says_so_by_a_name.edit: SHOWS NOTHING" "cannot_be_read.edit: BAD" \
         "stands_nowhere.edit: BAD"
-    printf '%s\n' "file: src/lib.rt" "old:     true" "new:     { let is = true; is }" >"$crate/must-fail/yes_is_no.control"
+    printf '%s\n' "file: src/lib.rt" "old:     true" "new:     { let is = true; is }" >"$crate/must-fail/yes_is_no.control.md"
     printf '%s\n' "file: src/lib.rt" "old:     again" "new:     3" >"$crate/must-fail/same_is_three.edit"
-    printf '%s\n' "file: src/lib.rt" "old:     again" "new:     given + 0" >"$crate/must-fail/same_is_three.control"
+    printf '%s\n' "file: src/lib.rt" "old:     again" "new:     given + 0" >"$crate/must-fail/same_is_three.control.md"
     attempt python3 - "$top" <<'PY'
 import sys
 
@@ -82,6 +82,7 @@ class Lane:
         text = edits.text_of(f"{crate.folder}/src/lib.rt")
         wrong = [name for name, body in (("yes", "    false\n"), ("no", "    yes()\n"), ("same", "    3\n"), ("same", "    given + 0\n")) if body in text]
         said = [f"note: src/lib.rt:1:1: it is not proved that it says so; `search` gave up at one of its limits\nfn sizes::{it}: no proof: expected answers" for it in wrong]
+        said += [f"fn sizes::{it}: proved" for it in ("yes", "no", "same") if it not in wrong]
         return (1, "\n".join([*said, "logic=not-proved"])) if wrong else (0, "logic=proved")
 
 
