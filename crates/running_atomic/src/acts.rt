@@ -6,18 +6,19 @@ ghost use Rattle.model_events.specs.declared.hold.HoldKind.TheVariants as kinds;
 ghost use Rattle.model_events.specs.declared.row.After.TheVariants as afters;
 ghost use Rattle.model_events.specs.Arithmetic.{IsValue};
 ghost use Rattle.model_events.specs.Moves.{CallValues};
+ghost use Rattle.model_atomic.specs.declared.AtomicPlace.TheVariants as places;
 ghost use Rattle.model_atomic.specs.Table.{atomic_grant, inside, compares, knows};
 ghost use Rattle.running_tallies.specs.declared.held.Held.TheVariants.{Free};
 ghost use Rattle.running_passes.specs.Passes.{IsSamePass};
 ghost use Rattle.running_model.specs.Slots.{Slot};
-ghost use Rattle.running_model.specs.Plays.{HasCalled};
+ghost use Rattle.running_model.specs.Plays.{HasCalled, HasEnded};
 ghost use Rattle.running_model.specs.Passes.{played, parties_of, counts_of, counted};
 ghost use Rattle.running_model.specs.Stages.{IsPassOf, key_of};
 ghost use Rattle.running_atomic.specs.AtomicParties.{Writes, AsksNobody, IsNext, Reads, GoesOnKnowing, ActsAtOther, Knows, Puts, MayPut, HasPut, HasReplaced};
 ghost use Rattle.running_atomic.specs.AtomicModel.{atomic_model};
 ghost use Rattle.model_atomic.specs.Register.{act_of as outcome_of, compared, plain, update, value_after, answer_to};
 ghost use Rattle.running_atomic.specs.AtomicRule.{act_in, value_of, IsWritten};
-ghost use Rattle.running_atomic.specs.AtomicSteps.{IsSettled, IfWriting, IsStoring, ActsAt};
+ghost use Rattle.running_atomic.specs.AtomicSteps.{IsReading, IsSettled, IfWriting, IsStoring, ActsAt};
 
 use crate::begins::FetchUpdateCall;
 use crate::calls::Atomic;
@@ -112,12 +113,33 @@ impl<T: AtomicInteger, A: Allocator> Atomic<T, A> {
         ensures played { HasCalled (atomic_model T.arithmetic (key_of self.now.stage)) calls.Load (answers.Value result) None (parties_of pass.old) (parties_of pass.new) }
     {
         let (seen, looked) = self.first_look(pass);
-        let locked = self.read_from(rt, looked, seen);
-        let (low, read) = self.read_low(locked);
+        let (is_in, last, tried) = self.try_read(looked, seen);
+        if is_in {
+            let (value, left) = self.read(tried);
+            let _pass = left.end(&self.stage);
+            return value;
+        }
+        let locked = self.read_from(rt, tried, last);
+        let (value, left) = self.read(locked);
+        let _pass = left.end(&self.stage);
+        value
+    }
+
+    /// Reads the value under a read hold, and leaves the lock.
+    #[inline(always)]
+    fn read<'p>(&self, turn: Going<'p, T>) -> (T, Going<'p, T>)
+        requires own { IsPassOf self.now.stage turn.pass.now }
+        requires on { IsReading (counts_of turn.pass.now).hold }
+        requires at { (done : List (Slot T)) × IsNext T.arithmetic (key_of self.now.stage) calls.Load (places.Low calls.Load) (Some kinds.Read) done (parties_of turn.pass.now) }
+        ensures same_borrow { result.1.pass.ghost_name ≡ turn.entry.pass.ghost_name }
+        ensures acted { HasActedAt T.arithmetic (key_of self.now.stage) (plain calls.Load) (answers.Value result.0) turn.entry.pass.now result.1.pass.now }
+        ensures rest { (counts_of result.1.pass.now).hold ≡ Free }
+        ensures ended { (done : List (Slot T)) → IsNext T.arithmetic (key_of self.now.stage) calls.Load (places.Low calls.Load) (Some kinds.Read) done (parties_of turn.entry.pass.now) → HasEnded (atomic_model T.arithmetic (key_of self.now.stage)) calls.Load (answers.Value result.0) None done (parties_of result.1.pass.now) }
+    {
+        let (low, read) = self.read_low(turn);
         let (high, acted) = self.end_load(read);
         let last = self.leave_read(acted);
-        let _pass = last.end(&self.stage);
-        T::from_words(low, high)
+        (T::from_words(low, high), last)
     }
 
     /// What `store` does.

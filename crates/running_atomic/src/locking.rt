@@ -1,5 +1,5 @@
 //! How a call takes the lock.
-ghost use Rattle.std.specs.Prelude.{◌≡◌, List, Some, None};
+ghost use Rattle.std.specs.Prelude.{◌≡◌, List, Some, None, true, false};
 ghost use Rattle.model_events.specs.declared.event.Call.TheVariants as calls;
 ghost use Rattle.model_events.specs.declared.hold.HoldKind.TheVariants as kinds;
 ghost use Rattle.model_events.specs.Moves.{CallValues};
@@ -38,7 +38,29 @@ fn pause(tries: u64) -> u64 {
 }
 
 impl<T: AtomicInteger, A: Allocator> Atomic<T, A> {
-    ghost use Rattle.running_atomic.specs.AtomicShown.{HasGot};
+    ghost use Rattle.running_atomic.specs.AtomicShown.{HasGot, IsStill};
+
+    /// Tries once to take the lock for reading, in a call that has just seen this value: whether it has, and what it saw last. It cannot wait, so
+    /// a `load` at a free lock tests no byte for it.
+    #[inline(always)]
+    pub(crate) fn try_read<'p>(&self, turn: Going<'p, T>, seen: u64) -> (bool, u64, Going<'p, T>)
+        requires own { IsPassOf self.now.stage turn.pass.now }
+        requires rest { (counts_of turn.pass.now).hold ≡ Free }
+        requires at { (done : List (Slot T)) × IsNext T.arithmetic (key_of self.now.stage) calls.Load (look_at seen) None done (parties_of turn.pass.now) }
+        ensures same_borrow { result.2.pass.ghost_name ≡ turn.entry.pass.ghost_name }
+        ensures on { result.0 ≡ true → HasGot IsReading turn.entry.pass.now result.2.pass.now }
+        ensures next { result.0 ≡ true → (done : List (Slot T)) → IsNext T.arithmetic (key_of self.now.stage) calls.Load (look_at seen) None done (parties_of turn.entry.pass.now) → IsNext T.arithmetic (key_of self.now.stage) calls.Load (places.Low calls.Load) (Some kinds.Read) done (parties_of result.2.pass.now) }
+        ensures still { result.0 ≡ false → IsStill turn.entry.pass.now result.2.pass.now }
+        ensures again { result.0 ≡ false → (done : List (Slot T)) → IsNext T.arithmetic (key_of self.now.stage) calls.Load (look_at seen) None done (parties_of turn.entry.pass.now) → IsNext T.arithmetic (key_of self.now.stage) calls.Load (look_at result.1) None done (parties_of result.2.pass.now) }
+    {
+        match reader_enters(seen) {
+            Some(to) => {
+                let (found, next) = self.enter_read(turn, seen, to);
+                (found == seen, found, next)
+            }
+            None => (false, seen, turn),
+        }
+    }
 
     /// Takes the lock for reading, in a call that has just seen this value.
     #[inline(always)]
