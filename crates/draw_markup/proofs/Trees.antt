@@ -120,10 +120,7 @@ group_more titles title inside b0 b1 b2 b3 b4 b5 h k same e1 e2 e3 e4 e5 =
     whole : b5 ≡ b0 ++ group_line (chars title) inside
     whole = rw (e5, e4, e3, e2, e1) (six' b0 (codes "<g><title>") (flat_map shown (chars title)) (codes "</title>") inside (codes "</g>\n") ∙ ap (λ (l : List ℕ). b0 ++ (codes "<g><title>" ++ (flat_map shown (chars title) ++ (codes "</title>" ++ (inside ++ l))))) end)
 
--- the groups so far: none, one more at a time, and all
-pub groups_begin : (titles : List (List ℕ)) (groups : List Gr) (bytes : List ℕ) → ∥ IsMarkup titles bytes ∥₁ → ∥ IsMarkup (titles ++ titles_of (take 0 groups)) bytes ∥₁
-groups_begin titles groups bytes h = subst (λ (l : List (List ℕ)). ∥ IsMarkup l bytes ∥₁) (sym (append-nil titles)) h
-
+-- the groups so far: all, and one more
 pub groups_all : (titles : List (List ℕ)) (groups : List Gr) (i : ℕ) (bytes : List ℕ) → length groups ≤ i → ∥ IsMarkup (titles ++ titles_of (take i groups)) bytes ∥₁ → ∥ IsMarkup (titles ++ titles_of groups) bytes ∥₁
 groups_all titles groups i bytes past h = subst (λ (g : List Gr). ∥ IsMarkup (titles ++ titles_of g) bytes ∥₁) (take_all i groups past) h
 
