@@ -237,10 +237,8 @@ class Batches:
 
 def proved_in(said):
     """The names of the functions that a check proved, but for those that stand in the path of one that it did not, as a closure's does."""
-    lines = re.findall(r"(?m)^fn (\S+): (.*)", said)
-    return {path.rpartition(":")[2] for path, what in lines if what == "proved"} - {
-        it for path, what in lines if what != "proved" for it in re.findall(r"\w+", path)
-    }
+    lines = re.findall(r"(?m)^fn (\S+): (proved)?", said)
+    return {path.rpartition(":")[2] for path, proved in lines if proved} - {it for path, proved in lines if not proved for it in re.findall(r"\w+", path)}
 
 
 def errors_of(said):
