@@ -157,7 +157,7 @@ def refusal(clauses):
 
 def by_lemmas(said):
     """The lemmas that no longer hold where no function's own goal is open, as of a wrong table."""
-    names = [it[1] for it in re.findall(r"(?m)^\./proofs/(\w+)\.antt:\d+:\d+: error(?:\[[\w-]+\])?: `([^`]+)`(?!.*depends? on `)", said)]
+    names = re.findall(r"(?m)^\./(?:proofs|specs)/\w+\.antt:\d+:\d+: error(?:\[[\w-]+\])?: `([^`]+)`(?!.*depends? on `)", said)
     return ", ".join(f"`{it}`" for it in [*dict.fromkeys(names)][:3])
 
 
