@@ -220,7 +220,7 @@ class Batches:
         """Takes what an edit or a control came to. An edit of which it is told only that a search gave up waits for its control."""
         if edit.name in self.waiting:
             name, why = self.waiting.pop(edit.name)
-            told = {"NOT REFUSED": ("refused", "and its control is proved"), "BAD": ("BAD", f"its control: {what[1]}")}
+            told = {it: (it, f"its control: {what[1]}") for it in ("BAD", "NOT TRIED")} | {"NOT REFUSED": ("refused", "and its control is proved")}
             self.told[name] = told.get(what[0], ("SHOWS NOTHING", f"{why}; and its control is refused too"))
             return
         self.refusals[edit.name] = refused_by
