@@ -1,7 +1,8 @@
 # The tool that proves and tries edits, on a crate of three functions and one test: what is no bug, what cannot be read, and what is refused for a name
 # alone, fails it and says so, beside wrong bodies in the same check; so do a test that fails and a crate that is not proved. Of three edits on which a
 # search gave up, over a checker that only pretends, two fail: one has no control, and that of the other is refused like it. Each check there begins with
-# what was proved, and with nothing that the one before it left. What was proved is kept from call to call, and does not serve another text. Where next to nothing of the disk is free,
+# what was proved, and with nothing that the one before it left. A closure's open goal is held against the function in whose body it stands, and not
+# against one of its own name. What was proved is kept from call to call, and does not serve another text. Where next to nothing of the disk is free,
 # nothing begins.
 test_batches() {
     local top=$room/batches crate=$room/batches/crates/sizes
@@ -105,6 +106,24 @@ PY
         succeed
     else
         fail "an edit at a limit" "it said: $(<"$room/out") $(tail -n 3 -- "$room/err")"
+    fi
+    attempt python3 - "$top" <<'PY'
+import sys
+
+sys.path.insert(0, f"{sys.argv[1]}/tools")
+import edits
+
+tries = edits.Batches(f"{sys.argv[1]}/crates/sizes", ["another_way.edit", "no_is_yes.edit"])
+said = "note: src/lib.rt:1:1: it is not proved that it says so\nfn sizes::fn::no::same: no proof: expected answers in ./proofs/fn/no/same/Answers.antt\nlogic=not-proved"
+tries.judge(tries.next(), 1, said)
+print(tries.told["no_is_yes.edit"][0], *(it.name for it in tries.next()))
+tries.judge(tries.next(), 0, "logic=proved")
+print(tries.told["another_way.edit"][0])
+PY
+    if [[ $(<"$room/out") == $'refused another_way.edit\nNOT REFUSED' ]]; then
+        succeed
+    else
+        fail "an edit of the function that a wrong closure is handed to" "it said: $(<"$room/out") $(tail -n 3 -- "$room/err")"
     fi
     attempt python3 - "$top" <<'PY'
 import collections
