@@ -1,8 +1,8 @@
 """Must-fail edits in batches, for tools/prove.py.
 
 A proof reads other functions by their contracts alone, so wrong bodies of different functions of a crate do not meet, and one check judges them
-all: an edit is refused where a goal of its own function, or of a closure in its body, stays open. What a check of several does not tell is tried again with what is left, and at
-last alone. An edit of a contract, a definition or a proof, or of several places, is tried alone from the first.
+all: an edit is refused where a goal of its own function, or of a closure in it, stays open. What a check of several does not tell is tried again with
+what is left, and at last alone. An edit of a contract, a definition or a proof, or of several places, is tried alone from the first.
 """
 import difflib
 import os
