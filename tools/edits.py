@@ -112,8 +112,8 @@ def with_edits(crate, edits):
 
 
 def owner(path):
-    """The function that a path is of, or in whose body the closure stands that it is of."""
-    return (CLOSURE.search(path) or re.search(r"(\w+)$", path))[1]
+    """The function that a path is of, or in whose body the closure stands that it is of. A cycle of calls is of a name of its own, with a `+`."""
+    return (CLOSURE.search(path) or re.search(r"(\+?\w+)$", path))[1]
 
 
 def open_goals(said):
@@ -198,8 +198,9 @@ class Batches:
         is_verdict = status == 1 and "logic=not-proved" in said
         goals = open_goals(said) if is_verdict else {}
         clauses = open_clauses(said) if is_verdict else {}
-        if batch[0].is_alone() or len(batch) == 1 and batch[0] in self.apart:
-            self.apart = self.apart[1:]
+        if len(batch) == 1:
+            # all that is open is due to it
+            self.left, self.apart = ([it for it in own if it is not batch[0]] for own in (self.left, self.apart))
             reasons = errors_of(said) + [it for own in goals.values() for it in own]
             self.tell(batch[0], judged(batch[0], status, is_verdict, reasons, said), refusal(clauses) or by_lemmas(said))
             return
@@ -215,7 +216,7 @@ class Batches:
                 continue
             told.append(edit)
         self.left = [it for it in self.left if it not in told]
-        if not told and not is_verdict and len(batch) > 1:
+        if not told and not is_verdict:
             # one of them kept the check from its end: in halves
             self.most = len(batch) // 2
         elif not told:
