@@ -1,22 +1,24 @@
 """Must-fail edits in batches, for tools/prove.py.
 
 A proof reads other functions by their contracts alone, so wrong bodies of different functions of a crate do not meet, and one check judges them
-all: an edit is refused where a goal of its own function stays open. What a check of several does not tell is tried again with what is left, and at
-last alone. An edit of a contract, a definition or a proof, or of several places, is tried alone from the first.
+all: an edit is refused where a goal of its own function, or of a closure in it, stays open. What a check of several does not tell is tried again with
+what is left, and at last alone. An edit of a contract, a definition or a proof, or of several places, is tried alone from the first.
 """
 import difflib
 import os
 import re
 
 HEAD = re.compile(r"^(\s*)(?:pub(?:\([^)]*\))?\s+)?(?:const\s+|unsafe\s+)*fn (\w+)")
-# A goal that a check leaves open: the function whose proof file it stands in, and what is said of it.
-GOAL = re.compile(r"^(?:note: )?\./(?:proofs/\S*?(\w+)/(?:Answers|Invariants|Proof)\.antt|\S+):\d+:\d+: error(?:\[[\w-]+\])?: (.*)")
+# A goal that a check leaves open: the path of the proof file that it stands in, and what is said of it.
+GOAL = re.compile(r"^(?:note: )?\./(?:proofs/(\S*\w)/(?:Answers|Invariants|Proof)\.antt|\S+):\d+:\d+: error(?:\[[\w-]+\])?: (.*)")
 # One that has no answer, and was searched for in vain; it is told before the line of its function.
 UNANSWERED = re.compile(r"^note: \S+:\d+:\d+: (it is not proved that .*)")
-FUNCTION = re.compile(r"^fn \S*?(\w+): (.*)")
+FUNCTION = re.compile(r"^fn (\S*\w): (.*)")
+# A closure's path has the function in whose body it stands, and last what it is named by, as the function that it is handed to.
+CLOSURE = re.compile(r"(?:^|::|/)fn(?:::|/)(?:[A-Z][^:/]*(?:::|/))*(\w+)")
 # The goals that a search did not prove, and the one that an error is in.
-UNPROVED = re.compile(r"^fn \S*?(\w+): no proof: expected answers.*?did not prove (.*?)(?:; it calls.*)?$")
-WRONG_ANSWER = re.compile(r"^(?:note: )?\./proofs/\S*?(\w+)/(?:Answers|Invariants|Proof)\.antt:\d+:\d+: error(?:\[[\w-]+\])?: `([^`]+)`")
+UNPROVED = re.compile(r"^fn (\S*\w): no proof: expected answers.*?did not prove (.*?)(?:; it calls.*)?$")
+WRONG_ANSWER = re.compile(r"^(?:note: )?\./proofs/(\S*\w)/(?:Answers|Invariants|Proof)\.antt:\d+:\d+: error(?:\[[\w-]+\])?: `([^`]+)`")
 # What is said of a proof that cites a broken one: no goal of its own.
 DEPENDS = re.compile(r"declarations? that depends? on `")
 # What says nothing of a contract: a proof misses a name that the edit took away. The kit's gate takes an edit for refused that has no other reason;
@@ -109,19 +111,24 @@ def with_edits(crate, edits):
     return new, old
 
 
+def owner(path):
+    """The function that a path is of, or in whose body the closure stands that it is of. A cycle of calls is of a name of its own, with a `+`."""
+    return (CLOSURE.search(path) or re.search(r"(\+?\w+)$", path))[1]
+
+
 def open_goals(said):
     """What a check says of each function whose goals it leaves open."""
     found, unanswered = {}, []
     for line in said.split("\n"):
         goal, note, function = GOAL.match(line), UNANSWERED.match(line), FUNCTION.match(line)
         if goal and goal[1] and not DEPENDS.search(line):
-            found.setdefault(goal[1], []).append(goal[2])
+            found.setdefault(owner(goal[1]), []).append(goal[2])
         elif note:
             unanswered.append(note[1])
         elif function:
             if function[2].startswith("no proof: expected answers") and not unanswered:
                 unanswered.append("no proof was found")
-            found.setdefault(function[1], []).extend(unanswered)
+            found.setdefault(owner(function[1]), []).extend(unanswered)
             unanswered = []
     return {name: reasons for name, reasons in found.items() if reasons}
 
@@ -145,7 +152,7 @@ def open_clauses(said):
         goals = re.findall(r"`([^`]+)`", unproved[2]) if unproved else [wrong[2]] if wrong and not DEPENDS.search(line) else []
         for goal in goals:
             clause = re.search(r"-clause-(\w+)$", goal)
-            found.setdefault((unproved or wrong)[1], {})[clause[1] if clause else "its one clause" if goal.startswith("returns") else goal] = True
+            found.setdefault(owner((unproved or wrong)[1]), {})[clause[1] if clause else "its one clause" if goal.startswith("returns") else goal] = True
     return {name: [*clauses] for name, clauses in found.items()}
 
 
@@ -191,8 +198,9 @@ class Batches:
         is_verdict = status == 1 and "logic=not-proved" in said
         goals = open_goals(said) if is_verdict else {}
         clauses = open_clauses(said) if is_verdict else {}
-        if batch[0].is_alone() or len(batch) == 1 and batch[0] in self.apart:
-            self.apart = self.apart[1:]
+        if len(batch) == 1:
+            # all that is open is due to it
+            self.left, self.apart = ([it for it in own if it is not batch[0]] for own in (self.left, self.apart))
             reasons = errors_of(said) + [it for own in goals.values() for it in own]
             self.tell(batch[0], judged(batch[0], status, is_verdict, reasons, said), refusal(clauses) or by_lemmas(said))
             return
@@ -208,7 +216,7 @@ class Batches:
                 continue
             told.append(edit)
         self.left = [it for it in self.left if it not in told]
-        if not told and not is_verdict and len(batch) > 1:
+        if not told and not is_verdict:
             # one of them kept the check from its end: in halves
             self.most = len(batch) // 2
         elif not told:

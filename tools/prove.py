@@ -133,6 +133,13 @@ class Shelf:
             if name == crate.name and not os.path.isdir(f"{own}/incremental"):
                 link(f"{kept}/incremental", f"{own}/incremental")
 
+    def renew(self, lane, crate):
+        """Gives a lane anew what was found of a crate's functions as they stand. A check of edits has put what it found of them in its place, and the next
+        would prove again all that they changed."""
+        kept = f"{self.folder}/{crate.name}/incremental"
+        if os.path.isdir(kept):
+            link(kept, f"{lane.made_of(crate.name)}/incremental")
+
     def free(self):
         return shutil.disk_usage(self.folder).free
 
@@ -339,6 +346,7 @@ class Tries:
                 return lane.run(crate, ["rt", "check", "--jobs", str(jobs)])
             finally:
                 put(folder, old)
+                lane.shelf.renew(lane, crate)
 
         while (batch := batches.next()) and time.time() < self.until:
             batches.judge(batch, *check(batch))

@@ -1,7 +1,9 @@
 # The tool that proves and tries edits, on a crate of three functions and one test: what is no bug, what cannot be read, and what is refused for a name
 # alone, fails it and says so, beside wrong bodies in the same check; so do a test that fails and a crate that is not proved. Of three edits on which a
-# search gave up, over a checker that only pretends, two fail: one has no control, and that of the other is refused like it. What was proved is kept
-# from call to call, and does not serve another text. Where next to nothing of the disk is free, nothing begins.
+# search gave up, over a checker that only pretends, two fail: one has no control, and that of the other is refused like it. Each check there begins with
+# what was proved, and with nothing that the one before it left. A closure's open goal is held against the function in whose body it stands, and not
+# against one of its own name. What was proved is kept from call to call, and does not serve another text. Where next to nothing of the disk is free,
+# nothing begins.
 test_batches() {
     local top=$room/batches crate=$room/batches/crates/sizes
     mkdir -p -- "$top/tools" "$crate/src" "$crate/proofs/no" "$crate/must-fail"
@@ -68,6 +70,7 @@ ANTT
     printf '%s\n' "file: src/lib.rt" "old:     again" "new:     3" >"$crate/must-fail/same_is_three.edit"
     printf '%s\n' "file: src/lib.rt" "old:     again" "new:     given + 0" >"$crate/must-fail/same_is_three.control.md"
     attempt python3 - "$top" <<'PY'
+import os
 import sys
 
 sys.path.insert(0, f"{sys.argv[1]}/tools")
@@ -76,9 +79,15 @@ import prove
 
 
 class Lane:
-    folder = sys.argv[1]
+    folder, shelf, left = sys.argv[1], prove.Shelf(f"{sys.argv[1]}/kept", ["sizes"]), set()
+
+    def made_of(self, name):
+        return f"{self.folder}/made"
 
     def run(self, crate, words):
+        at = f"{self.made_of(crate.name)}/incremental"
+        self.left |= {*os.listdir(at)}
+        open(f"{at}/what_an_edit_leaves_behind", "w").close()
         text = edits.text_of(f"{crate.folder}/src/lib.rt")
         wrong = [name for name, body in (("yes", "    false\n"), ("no", "    yes()\n"), ("same", "    3\n"), ("same", "    given + 0\n")) if body in text]
         said = [f"note: src/lib.rt:1:1: it is not proved that it says so; `search` gave up at one of its limits\nfn sizes::{it}: no proof: expected answers" for it in wrong]
@@ -88,13 +97,33 @@ class Lane:
 
 crate = prove.Crate(sys.argv[1], "sizes", [])
 crate.edits = ["no_is_yes.edit", "same_is_three.edit", "yes_is_no.edit"]
+for it in ("kept/sizes", "made"):
+    os.makedirs(f"{Lane.folder}/{it}/incremental")
 told = prove.Tries(1e12)(Lane(), crate, 1)
-print(told.line, told.why)
+print(told.line, told.why, *Lane.left)
 PY
     if [[ $(<"$room/out") == "1 of its 3 edits are refused, in "*"no_is_yes.edit: SHOWS NOTHING without a control: "*"same_is_three.edit: SHOWS NOTHING: "*"its control is refused too" ]]; then
         succeed
     else
         fail "an edit at a limit" "it said: $(<"$room/out") $(tail -n 3 -- "$room/err")"
+    fi
+    attempt python3 - "$top" <<'PY'
+import sys
+
+sys.path.insert(0, f"{sys.argv[1]}/tools")
+import edits
+
+tries = edits.Batches(f"{sys.argv[1]}/crates/sizes", ["another_way.edit", "no_is_yes.edit"])
+said = "note: src/lib.rt:1:1: it is not proved that it says so\nfn sizes::fn::no::same: no proof: expected answers in ./proofs/fn/no/same/Answers.antt\nlogic=not-proved"
+tries.judge(tries.next(), 1, said)
+print(tries.told["no_is_yes.edit"][0], *(it.name for it in tries.next()))
+tries.judge(tries.next(), 0, "logic=proved")
+print(tries.told["another_way.edit"][0])
+PY
+    if [[ $(<"$room/out") == $'refused another_way.edit\nNOT REFUSED' ]]; then
+        succeed
+    else
+        fail "an edit of the function that a wrong closure is handed to" "it said: $(<"$room/out") $(tail -n 3 -- "$room/err")"
     fi
     attempt python3 - "$top" <<'PY'
 import collections
