@@ -300,6 +300,7 @@ def build(lane, crate, jobs):
             return Told(0, 1, "NOT PROVED", why_of(said))
         if ended != status or wrote != wanted:
             return Told(0, 1, f"built by {backend}, it ended with status {ended} and not {status}, or wrote something else than its stored run", why_of(said))
+    lane.shelf.put(lane, crate)
     to = f"{crate.folder}/out"
     os.makedirs(to, exist_ok=True)
     shutil.copy(f"{folder}/out/{crate.name}", f"{to}/{crate.name}.new")
@@ -399,7 +400,8 @@ def tasks_of(wanted, crates, until):
         for it in chosen:
             if kind == "tests" and it.has_tests:
                 add_proofs([it.name])
-                add(kind, it.name, below(it), 3 * it.lines, test)
+                # A program's tests go on from its own proof.
+                add(kind, it.name, [*below(it), ("programs", it.name)], 3 * it.lines, test)
             elif kind == "programs" and it.is_program:
                 add_proofs([it.name])
                 add(kind, it.name, below(it), 600 + it.lines, build)

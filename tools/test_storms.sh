@@ -5,7 +5,7 @@ test_storms() {
         fail storms "$(tail -n 3 -- "$room/err")"
         return
     fi
-    echo 10000 | timeout 600 crates/test_storm/out/storm >"$room/out" 2>"$room/err"
+    echo 10000 | timeout 600 crates/test_storm/out/test_storm >"$room/out" 2>"$room/err"
     status=${PIPESTATUS[1]}
     cat -- "$room/out"
     sed 's/00 calls/000 calls/' crates/test_storm/stdout >"$room/storms"

@@ -4,31 +4,45 @@ ghost use Rattle.running_passes.specs.Parts.{IsWhole};
 
 use crate::platform::{Platform, Platforms};
 use crate::tally::{Outcome, Tally};
-use iceoryx2_pal_concurrency_sync::{Shares, in_threads};
+use iceoryx2_pal_concurrency_sync::{Shares, WaitAction, WaitWord, in_threads};
 use std::alloc::{AllocError, Global};
 use std::sync::Wait;
 use std::thread::Threads;
 use std::time::Clock;
 
+/// What one of a crowd has at hand. The closures are made once for all objects, since each one more has to be proved.
+#[derive(Drop)]
+pub struct Means<'c, B: Platform + Drop, W, K, V> {
+    pub tally: &'c Tally,
+    pub at: &'c Platforms<B>,
+    /// Waits where this one is to wait.
+    pub wait: W,
+    /// Wakes one of those that are woken one at a time.
+    pub wake_one: K,
+    /// Wakes all of those that are woken together.
+    pub wake_all: V,
+}
+
 /// An object that a crowd calls, each of it with a part of this pass.
 pub trait Object<P: Shares<Self>>: Sized {
+    /// So many of the crowd, the first of it, are woken one at a time, and the others together.
+    const WOKEN_ALONE: u64;
+
     /// The object, and the pass that is whole.
     fn make(alloc: Global) -> Result<(Self, P), AllocError>
         ensures idle { IfOk result (λ made. P.idle made.0 made.1) }
         ensures whole { IfOk result (λ made. IsWhole (P.part made.1)) };
 
-    /// One turn of one of the crowd. Each has a number, 0, 1 and so on, and counts its turns from 0. Who locks the object waits at the first
-    /// platform, and who waits for something else there at the second.
-    fn turn<R: Wait + Clock, B: Platform + Drop>(
-        &self,
-        rt: &R,
-        pass: &mut P,
-        tally: &Tally,
-        number: u64,
-        turn: u64,
-        at: &Platforms<B>,
-    )
+    /// One turn of one of the crowd. Each has a number, 0, 1 and so on, and counts its turns from 0.
+    fn turn<
+        R: Wait + Clock,
+        B: Platform + Drop,
+        W: Fn(&WaitWord, &u64) -> WaitAction + Copy,
+        K: Fn(&WaitWord) + Copy,
+        V: Fn(&WaitWord) + Copy,
+    >(&self, rt: &R, pass: &mut P, number: u64, turn: u64, by: &Means<B, W, K, V>)
         requires idle { P.idle self.now pass.old }
+        requires may { W.IsAlwaysCallable by.now.wait × K.IsAlwaysCallable by.now.wake_one × V.IsAlwaysCallable by.now.wake_all }
         ensures idle { P.idle self.now pass.new }
         ensures same { P.part pass.new ≡ P.part pass.old };
 
@@ -55,8 +69,8 @@ pub fn storm<
     let (object, pass) = O::make(alloc)?;
     let tally = Tally::new(turns);
     let at = Platforms {
-        first: B::new(),
-        second: B::new(),
+        one: B::new(),
+        all: B::new(),
     };
     let pass = in_threads(
         rt,
@@ -82,8 +96,16 @@ fn take_turns<O: Object<P>, P: Shares<O> + Drop, B: Platform + Drop, R: Wait + C
     ensures same { P.part result ≡ P.part pass }
 {
     let number = tally.number();
+    let own = at.of(number < O::WOKEN_ALONE);
+    let by = Means {
+        tally,
+        at,
+        wait: |word: &WaitWord, seen: &u64| own.wait(rt, tally, word, *seen, Tally::patience()),
+        wake_one: |word: &WaitWord| at.one.wake_one(word),
+        wake_all: |word: &WaitWord| at.all.wake_all(word),
+    };
     for turn in 0..tally.turns {
-        object.turn(rt, &mut pass, tally, number, turn, at);
+        object.turn(rt, &mut pass, number, turn, &by);
     }
     pass
 }

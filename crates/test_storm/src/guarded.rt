@@ -3,11 +3,11 @@ ghost use Rattle.std.specs.Prelude.{◌≡◌};
 ghost use Rattle.running_guarded.specs.GuardedShown.{IsGuardedPass, part_of, HasStayed};
 ghost use Rattle.running_mutex.specs.CondShown.{IsCondPass};
 
-use crate::crowd::Object;
-use crate::platform::{Impatient, Platform, Platforms};
+use crate::crowd::{Means, Object};
+use crate::platform::{Impatient, Platform};
 use crate::tally::Tally;
 use iceoryx2_pal_concurrency_sync::strategy::condition_variable::{CondPass, ConditionVariable};
-use iceoryx2_pal_concurrency_sync::{Shares, WaitResult, WaitWord};
+use iceoryx2_pal_concurrency_sync::{Shares, WaitAction, WaitResult, WaitWord};
 use running_guarded::{Guarded, GuardedPass};
 use std::alloc::{AllocError, Global};
 use std::sync::Wait;
@@ -59,6 +59,9 @@ impl Shares<Stock> for Passes {
 }
 
 impl Object<Passes> for Stock {
+    /// Who takes out, and waits at the condition variable.
+    const WOKEN_ALONE: u64 = 0;
+
     fn make(alloc: Global) -> Result<(Self, Passes), AllocError> {
         let (more, more_pass) = ConditionVariable::new(alloc)?;
         match Guarded::new(alloc, 0u64) {
@@ -74,29 +77,23 @@ impl Object<Passes> for Stock {
     }
 
     /// The first two put in, and the others take out.
-    fn turn<R: Wait + Clock, B: Platform + Drop>(
-        &self,
-        rt: &R,
-        pass: &mut Passes,
-        tally: &Tally,
-        number: u64,
-        _turn: u64,
-        at: &Platforms<B>,
-    ) {
+    fn turn<
+        R: Wait + Clock,
+        B: Platform + Drop,
+        W: Fn(&WaitWord, &u64) -> WaitAction + Copy,
+        K: Fn(&WaitWord) + Copy,
+        V: Fn(&WaitWord) + Copy,
+    >(&self, rt: &R, pass: &mut Passes, number: u64, _turn: u64, by: &Means<B, W, K, V>) {
         if number < 2 {
-            self.put(rt, pass, tally, at);
+            self.put(rt, pass, by);
         } else {
-            self.take(rt, pass, tally, at);
+            self.take(rt, pass, by);
         }
     }
 
     /// What was put in and not taken out has to be there, and nobody is counted as waiting any more.
     fn end<R: Wait + Clock>(self, rt: &R, mut pass: Passes, tally: &Tally) -> (u64, Option<u64>) {
-        let nobody = Platforms {
-            first: Impatient,
-            second: Impatient,
-        };
-        let lost = match self.add(rt, &mut pass.value, tally, 0, &nobody) {
+        let lost = match self.add(rt, &mut pass.value, tally, 0, &Impatient) {
             WaitResult::Success(left) => left.abs_diff(tally.rest()),
             WaitResult::Interrupted => u64::MAX,
         };
@@ -113,7 +110,7 @@ impl Stock {
         pass: &mut GuardedPass,
         tally: &Tally,
         amount: u64,
-        at: &Platforms<B>,
+        at: &B,
     ) -> WaitResult<u64>
         requires own { IsGuardedPass self.now.value pass.old }
         ensures stayed { HasStayed pass.old pass.new }
@@ -121,8 +118,8 @@ impl Stock {
         self.value.with(
             rt,
             pass,
-            |word, seen| at.first.wait(rt, tally, word, *seen, Tally::patience()),
-            |word| at.first.wake_one(word),
+            |word, seen| at.wait(rt, tally, word, *seen, Tally::patience()),
+            |word| at.wake_one(word),
             |number| {
                 *number = number.wrapping_add(amount);
                 *number
@@ -131,53 +128,54 @@ impl Stock {
     }
 
     /// Puts three in, and notifies all.
-    fn put<R: Wait + Clock, B: Platform + Drop>(
-        &self,
-        rt: &R,
-        pass: &mut Passes,
-        tally: &Tally,
-        at: &Platforms<B>,
-    )
+    fn put<
+        R: Wait + Clock,
+        B: Platform + Drop,
+        W: Fn(&WaitWord, &u64) -> WaitAction + Copy,
+        K: Fn(&WaitWord) + Copy,
+        V: Fn(&WaitWord) + Copy,
+    >(&self, rt: &R, pass: &mut Passes, by: &Means<B, W, K, V>)
         requires own { IsGuardedPass self.now.value pass.old.value × IsCondPass self.now.more pass.old.more }
+        requires may { V.IsAlwaysCallable by.now.wake_all }
         ensures own { IsGuardedPass self.now.value pass.new.value × IsCondPass self.now.more pass.new.more }
         ensures same { part_of pass.new.value ≡ part_of pass.old.value }
     {
-        match self.add(rt, &mut pass.value, tally, 3, at) {
+        match self.add(rt, &mut pass.value, by.tally, 3, &by.at.one) {
             WaitResult::Success(_) => {
-                tally.put(3);
-                self.more
-                    .notify_all(&mut pass.more, |word: &WaitWord| at.second.wake_all(word));
+                by.tally.put(3);
+                self.more.notify_all(&mut pass.more, by.wake_all);
             }
             WaitResult::Interrupted => {}
         }
     }
 
     /// Waits until there is one to take out.
-    fn take<R: Wait + Clock, B: Platform + Drop>(
-        &self,
-        rt: &R,
-        pass: &mut Passes,
-        tally: &Tally,
-        at: &Platforms<B>,
-    )
+    fn take<
+        R: Wait + Clock,
+        B: Platform + Drop,
+        W: Fn(&WaitWord, &u64) -> WaitAction + Copy,
+        K: Fn(&WaitWord) + Copy,
+        V: Fn(&WaitWord) + Copy,
+    >(&self, rt: &R, pass: &mut Passes, by: &Means<B, W, K, V>)
         requires own { IsGuardedPass self.now.value pass.old.value × IsCondPass self.now.more pass.old.more }
+        requires may { W.IsAlwaysCallable by.now.wait }
         ensures own { IsGuardedPass self.now.value pass.new.value × IsCondPass self.now.more pass.new.more }
         ensures same { part_of pass.new.value ≡ part_of pass.old.value }
     {
         let taken = self.value.when(
             rt,
             &mut pass.value,
-            |word| at.first.wake_one(word),
+            |word| by.at.one.wake_one(word),
             &self.more,
             &mut pass.more,
-            |word, seen| at.second.wait(rt, tally, word, *seen, Tally::patience()),
+            by.wait,
             |number| {
                 *number = number.checked_sub(1)?;
                 Some(())
             },
         );
         match taken {
-            WaitResult::Success(()) => tally.take(1),
+            WaitResult::Success(()) => by.tally.take(1),
             WaitResult::Interrupted => {}
         }
     }

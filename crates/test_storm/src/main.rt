@@ -26,6 +26,7 @@ use iceoryx2_pal_concurrency_sync::strategy::rwlock::{
     RwLockReaderPreference, RwLockWriterPreference,
 };
 use iceoryx2_pal_concurrency_sync::strategy::semaphore::Semaphore;
+use job_queue::JobQueue;
 use platform::{AtSleepers, Impatient, OnTheWord, Platform};
 use running_rw_value::RwLock;
 use std::alloc::{AllocError, Global};
@@ -108,7 +109,7 @@ fn storms<B: Platform + Sync + Drop, R: Threads + Wait + Clock + Sync>(
             8,
             turns,
         )?,
-        queue::storm::<B, R>(rt, alloc, how, turns)?,
+        storm::<JobQueue<u64>, _, B, R>(rt, alloc, "queue for 8", how, 8, turns)?,
     ];
     Ok(Outcomes { all })
 }

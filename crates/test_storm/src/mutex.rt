@@ -2,38 +2,33 @@
 ghost use Rattle.std.specs.Prelude.{◌≡◌};
 ghost use Rattle.running_mutex.specs.MutexShown.{IsMutexPass, IsAlone, HasStayed};
 
-use crate::crowd::Object;
-use crate::platform::{Platform, Platforms};
+use crate::crowd::{Means, Object};
+use crate::platform::Platform;
 use crate::tally::Tally;
 use iceoryx2_pal_concurrency_sync::strategy::mutex::{Mutex, MutexPass};
-use iceoryx2_pal_concurrency_sync::{WaitResult, WaitWord};
+use iceoryx2_pal_concurrency_sync::{WaitAction, WaitResult, WaitWord};
 use std::alloc::{AllocError, Global};
 use std::sync::Wait;
 use std::time::Clock;
 
 impl Object<MutexPass> for Mutex {
+    const WOKEN_ALONE: u64 = 8;
+
     fn make(alloc: Global) -> Result<(Self, MutexPass), AllocError> {
         Mutex::new(alloc)
     }
 
-    fn turn<R: Wait + Clock, B: Platform + Drop>(
-        &self,
-        rt: &R,
-        pass: &mut MutexPass,
-        tally: &Tally,
-        _number: u64,
-        _turn: u64,
-        at: &Platforms<B>,
-    ) {
-        match Mutex::lock(
-            pass,
-            self,
-            rt,
-            |word: &WaitWord, seen: &u64| at.first.wait(rt, tally, word, *seen, Tally::patience()),
-        ) {
+    fn turn<
+        R: Wait + Clock,
+        B: Platform + Drop,
+        W: Fn(&WaitWord, &u64) -> WaitAction + Copy,
+        K: Fn(&WaitWord) + Copy,
+        V: Fn(&WaitWord) + Copy,
+    >(&self, rt: &R, pass: &mut MutexPass, _number: u64, _turn: u64, by: &Means<B, W, K, V>) {
+        match Mutex::lock(pass, self, rt, by.wait) {
             WaitResult::Success(hold) => {
-                tally.change();
-                self.unlock(hold, |word: &WaitWord| at.first.wake_one(word));
+                by.tally.change();
+                self.unlock(hold, by.wake_one);
             }
             WaitResult::Interrupted => {}
         }

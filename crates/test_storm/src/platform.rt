@@ -124,9 +124,16 @@ impl Platform for AtSleepers {
     }
 }
 
-/// Where those wait who lock an object, and where those who wait for something else there.
+/// Where those wait who are woken one at a time, and where those who are woken together.
 #[derive(Drop)]
 pub struct Platforms<B: Platform + Drop> {
-    pub first: B,
-    pub second: B,
+    pub one: B,
+    pub all: B,
+}
+
+impl<B: Platform + Drop> Platforms<B> {
+    /// Where one waits who is woken alone, or is not.
+    pub fn of(&self, is_woken_alone: bool) -> &B {
+        if is_woken_alone { &self.one } else { &self.all }
+    }
 }

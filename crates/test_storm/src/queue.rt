@@ -1,111 +1,84 @@
 //! A storm at a queue for 8 jobs: two put, and six take.
+ghost use Rattle.std.specs.Prelude.{◌≡◌};
 ghost use Rattle.job_queue.specs.QueueShown.{IsQueuePass, HasStayed};
 
-use crate::platform::{Platform, Platforms};
-use crate::tally::{Outcome, Tally};
-use iceoryx2_pal_concurrency_sync::{WaitAction, WaitWord, in_threads, wake_nobody};
+use crate::crowd::{Means, Object};
+use crate::platform::Platform;
+use crate::tally::Tally;
+use iceoryx2_pal_concurrency_sync::{WaitAction, WaitWord, wake_nobody};
 use job_queue::{JobQueue, PutFault, QueuePass, Taken};
 use std::alloc::{AllocError, Global};
 use std::sync::Wait;
-use std::thread::Threads;
 use std::time::Clock;
-
-const CROWD: usize = 8;
 
 const PLACES: usize = 8;
 
-/// What the storm came to. What was put in and not taken out has to be in the queue still.
-pub fn storm<B: Platform + Sync + Drop, R: Threads + Wait + Clock + Sync>(
-    rt: &R,
-    alloc: Global,
-    how: &'static str,
-    turns: u64,
-) -> Result<Outcome, AllocError> {
-    let (queue, pass) = JobQueue::new(alloc, PLACES)?;
-    let tally = Tally::new(turns);
-    let at = Platforms {
-        first: B::new(),
-        second: B::new(),
-    };
-    let pass = in_threads(
-        rt,
-        &queue,
-        pass,
-        CROWD,
-        &|pass| { take_turns(rt, &queue, pass, &tally, &at) },
-    );
-    let lost = match empty(rt, &queue, pass) {
-        Some(left) => left.abs_diff(tally.rest()),
-        None => u64::MAX,
-    };
-    Ok(tally.outcome("queue for 8", how, CROWD, lost, None))
-}
+impl Object<QueuePass> for JobQueue<u64> {
+    const WOKEN_ALONE: u64 = 8;
 
-/// One of the crowd takes its turns: the first two put, and the others take. The last that puts closes the queue, so that none waits for more.
-fn take_turns<B: Platform + Drop, R: Wait + Clock>(
-    rt: &R,
-    queue: &JobQueue<u64>,
-    mut pass: QueuePass,
-    tally: &Tally,
-    at: &Platforms<B>,
-) -> QueuePass
-    requires own { IsQueuePass queue.now pass }
-    ensures stayed { HasStayed pass result }
-{
-    if tally.number() < 2 {
-        put_often(rt, queue, &mut pass, tally, at);
-    } else {
-        take_often(rt, queue, &mut pass, tally, at);
+    fn make(alloc: Global) -> Result<(Self, QueuePass), AllocError> {
+        JobQueue::new(alloc, PLACES)
     }
-    pass
-}
 
-fn put_often<B: Platform + Drop, R: Wait + Clock>(
-    rt: &R,
-    queue: &JobQueue<u64>,
-    pass: &mut QueuePass,
-    tally: &Tally,
-    at: &Platforms<B>,
-)
-    requires own { IsQueuePass queue.now pass.old }
-    ensures stayed { HasStayed pass.old pass.new }
-{
-    for turn in 0..tally.turns {
-        if queue
-            .put(rt, pass, turn, |word: &WaitWord| at.second.wake_one(word))
-            .is_ok()
-        {
-            tally.put(turn);
+    /// The first two put, and the others take.
+    fn turn<
+        R: Wait + Clock,
+        B: Platform + Drop,
+        W: Fn(&WaitWord, &u64) -> WaitAction + Copy,
+        K: Fn(&WaitWord) + Copy,
+        V: Fn(&WaitWord) + Copy,
+    >(&self, rt: &R, pass: &mut QueuePass, number: u64, turn: u64, by: &Means<B, W, K, V>) {
+        if number < 2 {
+            put(rt, self, pass, turn, by);
+        } else {
+            take(rt, self, pass, by);
         }
     }
-    if tally.is_last_to_put() {
-        queue.close(rt, pass, |word: &WaitWord| at.second.wake_all(word));
+
+    /// What was put in and not taken out has to be in the queue still.
+    fn end<R: Wait + Clock>(self, rt: &R, pass: QueuePass, tally: &Tally) -> (u64, Option<u64>) {
+        match empty(rt, &self, pass) {
+            Some(left) => (left.abs_diff(tally.rest()), None),
+            None => (u64::MAX, None),
+        }
+    }
+}
+
+/// The last that puts closes the queue, so that none waits for more.
+fn put<
+    R: Wait,
+    B: Platform + Drop,
+    W: Fn(&WaitWord, &u64) -> WaitAction + Copy,
+    K: Fn(&WaitWord) + Copy,
+    V: Fn(&WaitWord) + Copy,
+>(rt: &R, queue: &JobQueue<u64>, pass: &mut QueuePass, turn: u64, by: &Means<B, W, K, V>)
+    requires own { IsQueuePass queue.now pass.old }
+    requires may { K.IsAlwaysCallable by.now.wake_one }
+    ensures stayed { HasStayed pass.old pass.new }
+{
+    if queue.put(rt, pass, turn, by.wake_one).is_ok() {
+        by.tally.put(turn);
+    }
+    if by.tally.is_last_put(turn) {
+        queue.close(rt, pass, |word: &WaitWord| by.at.one.wake_all(word));
     }
 }
 
 /// Nobody waits for the queue's mutex by its closures, so its unlock wakes nobody.
-fn take_often<B: Platform + Drop, R: Wait + Clock>(
-    rt: &R,
-    queue: &JobQueue<u64>,
-    pass: &mut QueuePass,
-    tally: &Tally,
-    at: &Platforms<B>,
-)
+fn take<
+    R: Wait,
+    B: Platform + Drop,
+    W: Fn(&WaitWord, &u64) -> WaitAction + Copy,
+    K: Fn(&WaitWord) + Copy,
+    V: Fn(&WaitWord) + Copy,
+>(rt: &R, queue: &JobQueue<u64>, pass: &mut QueuePass, by: &Means<B, W, K, V>)
     requires own { IsQueuePass queue.now pass.old }
+    requires may { W.IsAlwaysCallable by.now.wait }
     ensures stayed { HasStayed pass.old pass.new }
 {
-    for _ in 0..tally.turns {
-        let taken = queue.take(
-            rt,
-            pass,
-            |word: &WaitWord, seen: &u64| at.second.wait(rt, tally, word, *seen, Tally::patience()),
-            wake_nobody,
-        );
-        match taken {
-            Taken::Job { job, .. } => tally.take(job),
-            Taken::Closed => return,
-            Taken::Empty | Taken::Interrupted => {}
-        }
+    match queue.take(rt, pass, by.wait, wake_nobody) {
+        Taken::Job { job, .. } => by.tally.take(job),
+        Taken::Closed | Taken::Empty | Taken::Interrupted => {}
     }
 }
 

@@ -2,34 +2,34 @@
 ghost use Rattle.std.specs.Prelude.{◌≡◌, Some};
 ghost use Rattle.running_rw_reader.specs.RwReaderShown.{IsRwReaderPass, IsAlone, HasStayed};
 
-use crate::crowd::Object;
-use crate::platform::{Platform, Platforms};
+use crate::crowd::{Means, Object};
+use crate::platform::Platform;
 use crate::tally::Tally;
 use iceoryx2_pal_concurrency_sync::strategy::rwlock::{RwLockReaderPreference, RwReaderPass};
-use iceoryx2_pal_concurrency_sync::{WaitResult, WaitWord};
+use iceoryx2_pal_concurrency_sync::{WaitAction, WaitResult, WaitWord};
 use std::alloc::{AllocError, Global};
 use std::sync::Wait;
 use std::time::Clock;
 
 impl Object<RwReaderPass> for RwLockReaderPreference {
+    const WOKEN_ALONE: u64 = 0;
+
     fn make(alloc: Global) -> Result<(Self, RwReaderPass), AllocError> {
         RwLockReaderPreference::new(alloc)
     }
 
     /// The first four write, and the others read.
-    fn turn<R: Wait + Clock, B: Platform + Drop>(
-        &self,
-        rt: &R,
-        pass: &mut RwReaderPass,
-        tally: &Tally,
-        number: u64,
-        _turn: u64,
-        at: &Platforms<B>,
-    ) {
+    fn turn<
+        R: Wait + Clock,
+        B: Platform + Drop,
+        W: Fn(&WaitWord, &u64) -> WaitAction + Copy,
+        K: Fn(&WaitWord) + Copy,
+        V: Fn(&WaitWord) + Copy,
+    >(&self, rt: &R, pass: &mut RwReaderPass, number: u64, _turn: u64, by: &Means<B, W, K, V>) {
         if number < 4 {
-            write(rt, self, pass, tally, at);
+            write(rt, self, pass, by);
         } else {
-            read(rt, self, pass, tally, at);
+            read(rt, self, pass, by);
         }
     }
 
@@ -43,49 +43,41 @@ impl Object<RwReaderPass> for RwLockReaderPreference {
     }
 }
 
-fn write<R: Wait + Clock, B: Platform + Drop>(
-    rt: &R,
-    lock: &RwLockReaderPreference,
-    pass: &mut RwReaderPass,
-    tally: &Tally,
-    at: &Platforms<B>,
-)
+fn write<
+    R: Wait,
+    B: Platform + Drop,
+    W: Fn(&WaitWord, &u64) -> WaitAction + Copy,
+    K: Fn(&WaitWord) + Copy,
+    V: Fn(&WaitWord) + Copy,
+>(rt: &R, lock: &RwLockReaderPreference, pass: &mut RwReaderPass, by: &Means<B, W, K, V>)
     requires own { IsRwReaderPass lock.now pass.old }
+    requires may { W.IsAlwaysCallable by.now.wait × V.IsAlwaysCallable by.now.wake_all }
     ensures stayed { HasStayed pass.old pass.new }
 {
-    match RwLockReaderPreference::write_lock(
-        pass,
-        lock,
-        rt,
-        |word: &WaitWord, seen: &u64| at.first.wait(rt, tally, word, *seen, Tally::patience()),
-    ) {
+    match RwLockReaderPreference::write_lock(pass, lock, rt, by.wait) {
         WaitResult::Success(hold) => {
-            tally.change();
-            lock.unlock(hold, |word: &WaitWord| at.first.wake_all(word));
+            by.tally.change();
+            lock.unlock(hold, by.wake_all);
         }
         WaitResult::Interrupted => {}
     }
 }
 
-fn read<R: Wait + Clock, B: Platform + Drop>(
-    rt: &R,
-    lock: &RwLockReaderPreference,
-    pass: &mut RwReaderPass,
-    tally: &Tally,
-    at: &Platforms<B>,
-)
+fn read<
+    R: Wait,
+    B: Platform + Drop,
+    W: Fn(&WaitWord, &u64) -> WaitAction + Copy,
+    K: Fn(&WaitWord) + Copy,
+    V: Fn(&WaitWord) + Copy,
+>(rt: &R, lock: &RwLockReaderPreference, pass: &mut RwReaderPass, by: &Means<B, W, K, V>)
     requires own { IsRwReaderPass lock.now pass.old }
+    requires may { W.IsAlwaysCallable by.now.wait × V.IsAlwaysCallable by.now.wake_all }
     ensures stayed { HasStayed pass.old pass.new }
 {
-    match RwLockReaderPreference::read_lock(
-        pass,
-        lock,
-        rt,
-        |word: &WaitWord, seen: &u64| at.first.wait(rt, tally, word, *seen, Tally::patience()),
-    ) {
+    match RwLockReaderPreference::read_lock(pass, lock, rt, by.wait) {
         WaitResult::Success(hold) => {
-            tally.look();
-            lock.unlock(hold, |word: &WaitWord| at.first.wake_all(word));
+            by.tally.look();
+            lock.unlock(hold, by.wake_all);
         }
         WaitResult::Interrupted => {}
     }

@@ -2,17 +2,19 @@
 ghost use Rattle.running_rw_writer.specs.RwWriterShown.{HasStayed};
 ghost use Rattle.running_rw_value.specs.RwValueShown.{IsRwValuePass};
 
-use crate::crowd::Object;
-use crate::platform::{Platform, Platforms};
+use crate::crowd::{Means, Object};
+use crate::platform::Platform;
 use crate::tally::Tally;
 use iceoryx2_pal_concurrency_sync::strategy::rwlock::RwWriterPass;
-use iceoryx2_pal_concurrency_sync::{WaitResult, WaitWord};
+use iceoryx2_pal_concurrency_sync::{WaitAction, WaitResult, WaitWord};
 use running_rw_value::RwLock;
 use std::alloc::{AllocError, Global};
 use std::sync::Wait;
 use std::time::Clock;
 
 impl Object<RwWriterPass> for RwLock<u64> {
+    const WOKEN_ALONE: u64 = 4;
+
     fn make(alloc: Global) -> Result<(Self, RwWriterPass), AllocError> {
         match RwLock::new(alloc, 0u64) {
             Ok(made) => Ok(made),
@@ -21,20 +23,18 @@ impl Object<RwWriterPass> for RwLock<u64> {
     }
 
     /// The first four write, and the others read.
-    fn turn<R: Wait + Clock, B: Platform + Drop>(
-        &self,
-        rt: &R,
-        pass: &mut RwWriterPass,
-        tally: &Tally,
-        number: u64,
-        _turn: u64,
-        at: &Platforms<B>,
-    ) {
+    fn turn<
+        R: Wait + Clock,
+        B: Platform + Drop,
+        W: Fn(&WaitWord, &u64) -> WaitAction + Copy,
+        K: Fn(&WaitWord) + Copy,
+        V: Fn(&WaitWord) + Copy,
+    >(&self, rt: &R, pass: &mut RwWriterPass, number: u64, _turn: u64, by: &Means<B, W, K, V>) {
         match number {
-            0 | 1 => write_within(rt, self, pass, tally, at),
-            2 | 3 => write_with_guard(rt, self, pass, tally, at),
-            4 | 5 => read_within(rt, self, pass, tally, at),
-            _ => read_with_guard(rt, self, pass, tally, at),
+            0 | 1 => write_within(rt, self, pass, by),
+            2 | 3 => write_with_guard(rt, self, pass, by),
+            4 | 5 => read_within(rt, self, pass, by),
+            _ => read_with_guard(rt, self, pass, by),
         }
     }
 
@@ -56,94 +56,82 @@ fn change(value: &mut u64, tally: &Tally) {
     *value = value.wrapping_add(1);
 }
 
-fn write_within<R: Wait + Clock, B: Platform + Drop>(
-    rt: &R,
-    lock: &RwLock<u64>,
-    pass: &mut RwWriterPass,
-    tally: &Tally,
-    at: &Platforms<B>,
-)
+fn write_within<
+    R: Wait,
+    B: Platform + Drop,
+    W: Fn(&WaitWord, &u64) -> WaitAction + Copy,
+    K: Fn(&WaitWord) + Copy,
+    V: Fn(&WaitWord) + Copy,
+>(rt: &R, lock: &RwLock<u64>, pass: &mut RwWriterPass, by: &Means<B, W, K, V>)
     requires own { IsRwValuePass lock.now pass.old }
+    requires may { W.IsAlwaysCallable by.now.wait × K.IsAlwaysCallable by.now.wake_one × V.IsAlwaysCallable by.now.wake_all }
     ensures stayed { HasStayed pass.old pass.new }
 {
     let _written = lock.with_write(
         rt,
         pass,
-        |word: &WaitWord, seen: &u64| at.second.wait(rt, tally, word, *seen, Tally::patience()),
-        |word: &WaitWord| at.second.wake_one(word),
-        |word: &WaitWord| at.first.wake_all(word),
-        |value| change(value, tally),
+        by.wait,
+        by.wake_one,
+        by.wake_all,
+        |value| change(value, by.tally),
     );
 }
 
-fn write_with_guard<R: Wait + Clock, B: Platform + Drop>(
-    rt: &R,
-    lock: &RwLock<u64>,
-    pass: &mut RwWriterPass,
-    tally: &Tally,
-    at: &Platforms<B>,
-)
+fn write_with_guard<
+    R: Wait,
+    B: Platform + Drop,
+    W: Fn(&WaitWord, &u64) -> WaitAction + Copy,
+    K: Fn(&WaitWord) + Copy,
+    V: Fn(&WaitWord) + Copy,
+>(rt: &R, lock: &RwLock<u64>, pass: &mut RwWriterPass, by: &Means<B, W, K, V>)
     requires own { IsRwValuePass lock.now pass.old }
+    requires may { W.IsAlwaysCallable by.now.wait × K.IsAlwaysCallable by.now.wake_one × V.IsAlwaysCallable by.now.wake_all }
     ensures stayed { HasStayed pass.old pass.new }
 {
-    match RwLock::write(
-        pass,
-        lock,
-        rt,
-        |word: &WaitWord, seen: &u64| at.second.wait(rt, tally, word, *seen, Tally::patience()),
-        |word: &WaitWord| at.second.wake_one(word),
-        |word: &WaitWord| at.first.wake_all(word),
-    ) {
+    match RwLock::write(pass, lock, rt, by.wait, by.wake_one, by.wake_all) {
         WaitResult::Success(mut guard) => {
-            guard.change(|value| change(value, tally));
-            RwLock::unlock_write(
-                guard,
-                |word: &WaitWord| at.second.wake_one(word),
-                |word: &WaitWord| at.first.wake_all(word),
-            );
+            guard.change(|value| change(value, by.tally));
+            RwLock::unlock_write(guard, by.wake_one, by.wake_all);
         }
         WaitResult::Interrupted => {}
     }
 }
 
-fn read_within<R: Wait + Clock, B: Platform + Drop>(
-    rt: &R,
-    lock: &RwLock<u64>,
-    pass: &mut RwWriterPass,
-    tally: &Tally,
-    at: &Platforms<B>,
-)
+fn read_within<
+    R: Wait,
+    B: Platform + Drop,
+    W: Fn(&WaitWord, &u64) -> WaitAction + Copy,
+    K: Fn(&WaitWord) + Copy,
+    V: Fn(&WaitWord) + Copy,
+>(rt: &R, lock: &RwLock<u64>, pass: &mut RwWriterPass, by: &Means<B, W, K, V>)
     requires own { IsRwValuePass lock.now pass.old }
+    requires may { W.IsAlwaysCallable by.now.wait × K.IsAlwaysCallable by.now.wake_one }
     ensures stayed { HasStayed pass.old pass.new }
 {
     let _read = lock.with_read(
         rt,
         pass,
-        |word: &WaitWord, seen: &u64| at.first.wait(rt, tally, word, *seen, Tally::patience()),
-        |word: &WaitWord| at.second.wake_one(word),
-        |value| tally.look_beside(*value),
+        by.wait,
+        by.wake_one,
+        |value| by.tally.look_beside(*value),
     );
 }
 
-fn read_with_guard<R: Wait + Clock, B: Platform + Drop>(
-    rt: &R,
-    lock: &RwLock<u64>,
-    pass: &mut RwWriterPass,
-    tally: &Tally,
-    at: &Platforms<B>,
-)
+fn read_with_guard<
+    R: Wait,
+    B: Platform + Drop,
+    W: Fn(&WaitWord, &u64) -> WaitAction + Copy,
+    K: Fn(&WaitWord) + Copy,
+    V: Fn(&WaitWord) + Copy,
+>(rt: &R, lock: &RwLock<u64>, pass: &mut RwWriterPass, by: &Means<B, W, K, V>)
     requires own { IsRwValuePass lock.now pass.old }
+    requires may { W.IsAlwaysCallable by.now.wait × K.IsAlwaysCallable by.now.wake_one }
     ensures stayed { HasStayed pass.old pass.new }
 {
-    match RwLock::read(
-        pass,
-        lock,
-        rt,
-        |word: &WaitWord, seen: &u64| at.first.wait(rt, tally, word, *seen, Tally::patience()),
-    ) {
+    match RwLock::read(pass, lock, rt, by.wait) {
         WaitResult::Success(guard) => {
-            tally.look_beside(*guard);
-            RwLock::unlock_read(guard, |word: &WaitWord| at.second.wake_one(word));
+            by.tally.look_beside(*guard);
+            RwLock::unlock_read(guard, by.wake_one);
         }
         WaitResult::Interrupted => {}
     }

@@ -2,34 +2,34 @@
 ghost use Rattle.std.specs.Prelude.{◌≡◌, Some};
 ghost use Rattle.running_rw_writer.specs.RwWriterShown.{IsRwWriterPass, IsAlone, HasStayed};
 
-use crate::crowd::Object;
-use crate::platform::{Platform, Platforms};
+use crate::crowd::{Means, Object};
+use crate::platform::Platform;
 use crate::tally::Tally;
 use iceoryx2_pal_concurrency_sync::strategy::rwlock::{RwLockWriterPreference, RwWriterPass};
-use iceoryx2_pal_concurrency_sync::{WaitResult, WaitWord};
+use iceoryx2_pal_concurrency_sync::{WaitAction, WaitResult, WaitWord};
 use std::alloc::{AllocError, Global};
 use std::sync::Wait;
 use std::time::Clock;
 
 impl Object<RwWriterPass> for RwLockWriterPreference {
+    const WOKEN_ALONE: u64 = 4;
+
     fn make(alloc: Global) -> Result<(Self, RwWriterPass), AllocError> {
         RwLockWriterPreference::new(alloc)
     }
 
     /// The first four write, and the others read.
-    fn turn<R: Wait + Clock, B: Platform + Drop>(
-        &self,
-        rt: &R,
-        pass: &mut RwWriterPass,
-        tally: &Tally,
-        number: u64,
-        _turn: u64,
-        at: &Platforms<B>,
-    ) {
+    fn turn<
+        R: Wait + Clock,
+        B: Platform + Drop,
+        W: Fn(&WaitWord, &u64) -> WaitAction + Copy,
+        K: Fn(&WaitWord) + Copy,
+        V: Fn(&WaitWord) + Copy,
+    >(&self, rt: &R, pass: &mut RwWriterPass, number: u64, _turn: u64, by: &Means<B, W, K, V>) {
         if number < 4 {
-            write(rt, self, pass, tally, at);
+            write(rt, self, pass, by);
         } else {
-            read(rt, self, pass, tally, at);
+            read(rt, self, pass, by);
         }
     }
 
@@ -43,59 +43,41 @@ impl Object<RwWriterPass> for RwLockWriterPreference {
     }
 }
 
-fn write<R: Wait + Clock, B: Platform + Drop>(
-    rt: &R,
-    lock: &RwLockWriterPreference,
-    pass: &mut RwWriterPass,
-    tally: &Tally,
-    at: &Platforms<B>,
-)
+fn write<
+    R: Wait,
+    B: Platform + Drop,
+    W: Fn(&WaitWord, &u64) -> WaitAction + Copy,
+    K: Fn(&WaitWord) + Copy,
+    V: Fn(&WaitWord) + Copy,
+>(rt: &R, lock: &RwLockWriterPreference, pass: &mut RwWriterPass, by: &Means<B, W, K, V>)
     requires own { IsRwWriterPass lock.now pass.old }
+    requires may { W.IsAlwaysCallable by.now.wait × K.IsAlwaysCallable by.now.wake_one × V.IsAlwaysCallable by.now.wake_all }
     ensures stayed { HasStayed pass.old pass.new }
 {
-    match RwLockWriterPreference::write_lock(
-        pass,
-        lock,
-        rt,
-        |word: &WaitWord, seen: &u64| at.second.wait(rt, tally, word, *seen, Tally::patience()),
-        |word: &WaitWord| at.second.wake_one(word),
-        |word: &WaitWord| at.first.wake_all(word),
-    ) {
+    match RwLockWriterPreference::write_lock(pass, lock, rt, by.wait, by.wake_one, by.wake_all) {
         WaitResult::Success(hold) => {
-            tally.change();
-            lock.unlock(
-                hold,
-                |word: &WaitWord| at.second.wake_one(word),
-                |word: &WaitWord| at.first.wake_all(word),
-            );
+            by.tally.change();
+            lock.unlock(hold, by.wake_one, by.wake_all);
         }
         WaitResult::Interrupted => {}
     }
 }
 
-fn read<R: Wait + Clock, B: Platform + Drop>(
-    rt: &R,
-    lock: &RwLockWriterPreference,
-    pass: &mut RwWriterPass,
-    tally: &Tally,
-    at: &Platforms<B>,
-)
+fn read<
+    R: Wait,
+    B: Platform + Drop,
+    W: Fn(&WaitWord, &u64) -> WaitAction + Copy,
+    K: Fn(&WaitWord) + Copy,
+    V: Fn(&WaitWord) + Copy,
+>(rt: &R, lock: &RwLockWriterPreference, pass: &mut RwWriterPass, by: &Means<B, W, K, V>)
     requires own { IsRwWriterPass lock.now pass.old }
+    requires may { W.IsAlwaysCallable by.now.wait × K.IsAlwaysCallable by.now.wake_one × V.IsAlwaysCallable by.now.wake_all }
     ensures stayed { HasStayed pass.old pass.new }
 {
-    match RwLockWriterPreference::read_lock(
-        pass,
-        lock,
-        rt,
-        |word: &WaitWord, seen: &u64| at.first.wait(rt, tally, word, *seen, Tally::patience()),
-    ) {
+    match RwLockWriterPreference::read_lock(pass, lock, rt, by.wait) {
         WaitResult::Success(hold) => {
-            tally.look();
-            lock.unlock(
-                hold,
-                |word: &WaitWord| at.second.wake_one(word),
-                |word: &WaitWord| at.first.wake_all(word),
-            );
+            by.tally.look();
+            lock.unlock(hold, by.wake_one, by.wake_all);
         }
         WaitResult::Interrupted => {}
     }

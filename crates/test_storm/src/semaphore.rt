@@ -1,10 +1,10 @@
 //! A storm at a semaphore of 3.
 
-use crate::crowd::Object;
-use crate::platform::{Platform, Platforms};
+use crate::crowd::{Means, Object};
+use crate::platform::Platform;
 use crate::tally::Tally;
 use iceoryx2_pal_concurrency_sync::strategy::semaphore::{SemPass, Semaphore};
-use iceoryx2_pal_concurrency_sync::{WaitResult, WaitWord};
+use iceoryx2_pal_concurrency_sync::{WaitAction, WaitResult, WaitWord};
 use std::alloc::{AllocError, Global};
 use std::sync::Wait;
 use std::time::Clock;
@@ -12,28 +12,24 @@ use std::time::Clock;
 const PERMITS: u64 = 3;
 
 impl Object<SemPass> for Semaphore {
+    const WOKEN_ALONE: u64 = 8;
+
     fn make(alloc: Global) -> Result<(Self, SemPass), AllocError> {
         Semaphore::new(alloc, PERMITS)
     }
 
-    fn turn<R: Wait + Clock, B: Platform + Drop>(
-        &self,
-        rt: &R,
-        pass: &mut SemPass,
-        tally: &Tally,
-        _number: u64,
-        _turn: u64,
-        at: &Platforms<B>,
-    ) {
-        match self.wait(
-            rt,
-            pass,
-            |word: &WaitWord, seen: &u64| at.first.wait(rt, tally, word, *seen, Tally::patience()),
-        ) {
+    fn turn<
+        R: Wait + Clock,
+        B: Platform + Drop,
+        W: Fn(&WaitWord, &u64) -> WaitAction + Copy,
+        K: Fn(&WaitWord) + Copy,
+        V: Fn(&WaitWord) + Copy,
+    >(&self, rt: &R, pass: &mut SemPass, _number: u64, _turn: u64, by: &Means<B, W, K, V>) {
+        match self.wait(rt, pass, by.wait) {
             WaitResult::Success(()) => {
-                tally.enter(PERMITS);
-                tally.leave();
-                self.post(pass, |word: &WaitWord| at.first.wake_one(word), 1);
+                by.tally.enter(PERMITS);
+                by.tally.leave();
+                self.post(pass, by.wake_one, 1);
             }
             WaitResult::Interrupted => {}
         }

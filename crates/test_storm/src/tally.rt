@@ -116,9 +116,9 @@ impl Tally {
         WaitAction::Abort
     }
 
-    /// One of two has put all that it has to put. Whether it is the last.
-    pub fn is_last_to_put(&self) -> bool {
-        self.changes.fetch_add(1, ORDER) == 1
+    /// One of two has put in this turn. Whether both have no more turns.
+    pub fn is_last_put(&self, turn: u64) -> bool {
+        turn.wrapping_add(1) == self.turns && self.changes.fetch_add(1, ORDER) == 1
     }
 
     /// Something was seen that cannot be.
