@@ -2,16 +2,18 @@
 ghost use Rattle.running_guarded.specs.GuardedShown.{IsGuardedPass};
 
 use super::holding::is_refused;
-use super::party::{Party, Shared, in_two_parts};
-use super::wake_nobody_at_number;
+use super::party::{Party, Shared, change_to, in_two_parts};
+use super::{wake_nobody_at_value, yield_at_value};
 use model_events::WaitAction;
-use running_closures::wake_nobody;
 use running_guarded::{Guarded, GuardedPass};
 use running_passes::WaitResult;
+use std::alloc::{AllocError, Global};
 use std::sync::Wait;
+use std::sync::atomic::AtomicU64;
 use std::test::Fail;
+use std::thread::Threads;
 use std::{mem, thread};
-use test_signal::{Gathering, Meeting, Notes};
+use test_signal::{Gathering, Meeting};
 
 /// Adds 1 to the value by `with`. Whether `other` was refused meanwhile; the closures are gathered.
 fn add_gathered<R: Wait>(
@@ -92,157 +94,140 @@ fn a_change_is_made_before_it_notifies(rt: HostRuntime) -> Result<(), Fail> {
     Ok(())
 }
 
-/// Waits until the value is not this, with a wait closure that answers `Abort`. What it found then, and what the closures were told.
+/// Is held up, where it is to, until the other threads have come to the meeting twice.
+fn meet_twice(meeting: &Meeting, is_held_up: bool) {
+    if is_held_up {
+        let _ = meeting.meet() && meeting.meet();
+    }
+}
+
+/// What a wait came to, and its closures with what each was told; the wait closure comes twice, first with what its word held.
+pub(super) type Waited = (WaitResult<u64>, (u64, u64));
+
+/// Waits for this number, with a wait closure that answers `Abort`, held up in its first wake, or else in that closure.
 fn wait_gathered<R: Wait>(
     rt: &R,
     party: &mut Party<'_>,
-    unwanted: u64,
-) -> (WaitResult<u64>, (u64, u64)) {
+    wanted: u64,
+    meeting: &Meeting,
+    in_wake: bool,
+) -> Waited {
     let gathering = Gathering::new();
     let shared = party.shared;
     let found = shared.number.when(
         rt,
         &mut party.number,
-        |word| gathering.wake_one(word.load()),
+        |word| {
+            gathering.wake_one(word.load());
+            meet_twice(meeting, in_wake && gathering.gathered().0 == 42);
+        },
         &shared.changed,
         &mut party.changed,
-        |_, seen| {
+        |word, seen| {
+            gathering.wait(word.load());
             gathering.wait(*seen);
+            meet_twice(meeting, !in_wake);
             WaitAction::Abort
         },
         |number| {
             gathering.act(*number);
-            (*number != unwanted).then_some(*number)
+            (*number == wanted).then_some(wanted)
         },
     );
     (found, gathering.gathered())
 }
 
-/// It acts, unlocks and wakes, asks, acts once more, and unlocks and wakes. Where it can act at once it asks nothing.
+/// Waits for two numbers, one after another, where nobody changes a 7.
+pub(super) fn wait_alone<R: Wait>(
+    rt: &R,
+    alloc: Global,
+    first: u64,
+    second: u64,
+) -> Result<[Waited; 2], AllocError> {
+    let (shared, pass, changed) = Shared::new(alloc, 7)?;
+    let mut party = shared.party(pass, changed);
+    let meeting = Meeting::of(1);
+    Ok([
+        wait_gathered(rt, &mut party, first, &meeting, false),
+        wait_gathered(rt, &mut party, second, &meeting, false),
+    ])
+}
+
+/// What a wait comes to that cannot act: it acts, unlocks and wakes, asks, acts once more, and unlocks and wakes.
+pub(super) const GAVE_UP: Waited = (WaitResult::Interrupted, (421142, 700070));
+
+/// Where it can act at once it asks nothing.
 #[test]
 fn a_when_unlocks_before_it_asks(rt: HostRuntime) -> Result<(), Fail> {
-    let (shared, pass, changed) = Shared::new(rt.alloc(), 7)?;
-    let mut party = shared.party(pass, changed);
-    let gave_up = wait_gathered(&rt, &mut party, 7);
-    let acted = wait_gathered(&rt, &mut party, 8);
-    assert_eq!(rt; gave_up, (WaitResult::Interrupted, (42142, 70070)));
-    assert_eq!(rt; acted, (WaitResult::Success(7), (42, 70)));
+    assert_eq!(rt;
+        wait_alone(&rt, rt.alloc(), 8, 7)?,
+        [GAVE_UP, (WaitResult::Success(7), (42, 70))]
+    );
     Ok(())
 }
 
-/// Changes the value to 8, and notifies, between two meetings. Whether the other came to both.
-fn change_between<R: Wait>(rt: &R, party: &mut Party<'_>, meeting: &Meeting) -> bool {
-    if !meeting.meet() {
-        return false;
+/// Writes 8 as the value, and notifies nobody. Whether it had the lock.
+fn set_to_eight<R: Wait>(rt: &R, party: &mut Party<'_>) -> bool {
+    let number = &party.shared.number;
+    match Guarded::lock(&mut party.number, number, rt, yield_at_value) {
+        WaitResult::Success(mut guard) => {
+            *guard = 8;
+            Guarded::unlock(guard, wake_nobody_at_value);
+            true
+        }
+        WaitResult::Interrupted => false,
     }
-    let shared = party.shared;
-    shared.number.change(
-        rt,
-        &mut party.number,
-        wake_nobody_at_number,
-        &shared.changed,
-        &mut party.changed,
-        wake_nobody,
-        |number| *number = 8,
-    );
-    meeting.meet()
 }
 
-/// Waits for 8 by `when`, and is held up in its first wake while the other thread changes the value. What it found, and what its wait
-/// closure, which answers `Abort`, noted.
-fn wait_held_up<R: Wait>(
+/// Changes the value to 8 between two meetings, and may notify. Whether the other came to both.
+fn change_between<R: Wait>(
     rt: &R,
     party: &mut Party<'_>,
     meeting: &Meeting,
-) -> (WaitResult<u64>, (u64, u64, u64)) {
-    let notes = Notes::new();
-    let wakes = Notes::new();
-    let shared = party.shared;
-    let answer = shared.number.when(
+    notifies: bool,
+) -> bool {
+    let came = meeting.meet();
+    let changed = if notifies {
+        change_to(rt, party, &AtomicU64::new(0), 8) == 7
+    } else {
+        set_to_eight(rt, party)
+    };
+    came && changed && meeting.meet()
+}
+
+/// A wait for 8, while another thread changes the value: it is held up in its first wake where that notifies, and else in its wait closure.
+/// Whether the other came, and what the wait came to.
+fn wait_beside<R: Threads + Wait + Sync>(
+    rt: &R,
+    alloc: Global,
+    notifies: bool,
+) -> Result<(bool, Waited), AllocError> {
+    let (shared, pass, changed) = Shared::new(alloc, 7)?;
+    let (mut one, mut two) = shared.two_parties(pass, changed);
+    let meeting = Meeting::of(2);
+    Ok(thread::join(
         rt,
-        &mut party.number,
-        |word| {
-            wakes.note(word.load(), 0);
-            if wakes.noted().0 == 1 {
-                let _ = meeting.meet() && meeting.meet();
-            }
-        },
-        &shared.changed,
-        &mut party.changed,
-        |word, seen| {
-            notes.note(word.load(), *seen);
-            WaitAction::Abort
-        },
-        |number| (*number == 8).then_some(8),
-    );
-    (answer, notes.noted())
+        || change_between(rt, &mut one, &meeting, notifies),
+        || wait_gathered(rt, &mut two, 8, &meeting, notifies),
+    ))
 }
 
 /// A notify by whoever has the value next is not lost: the waiter was counted before it unlocked. So it takes a permit, and is not asked.
 #[test]
 fn a_waiter_is_counted_before_it_unlocks(rt: HostRuntime) -> Result<(), Fail> {
-    let (shared, pass, changed) = Shared::new(rt.alloc(), 7)?;
-    let (mut one, mut two) = shared.two_parties(pass, changed);
-    let meeting = Meeting::of(2);
-    let came_and_found = thread::join(
-        &rt,
-        || change_between(&rt, &mut one, &meeting),
-        || wait_held_up(&rt, &mut two, &meeting),
+    assert_eq!(rt;
+        wait_beside(&rt, rt.alloc(), true)?,
+        (true, (WaitResult::Success(8), (4242, 7080)))
     );
-    assert_eq!(rt; came_and_found, (true, (WaitResult::Success(8), (0, 0, 0))));
     Ok(())
-}
-
-/// Changes the value to 8 and notifies nobody, between two meetings. Whether the other came to both.
-fn set_between<R: Wait>(rt: &R, party: &mut Party<'_>, meeting: &Meeting) -> bool {
-    if !meeting.meet() {
-        return false;
-    }
-    let set = party.shared.number.with(
-        rt,
-        &mut party.number,
-        |_, _| WaitAction::Abort,
-        wake_nobody_at_number,
-        |number| *number = 8,
-    );
-    set == WaitResult::Success(()) && meeting.meet()
-}
-
-/// Waits for 8 by `when`, with a closure that answers `Abort` once the other thread has set it. What it found, and what the closure noted.
-fn wait_until_set<R: Wait>(
-    rt: &R,
-    party: &mut Party<'_>,
-    meeting: &Meeting,
-) -> (WaitResult<u64>, (u64, u64, u64)) {
-    let notes = Notes::new();
-    let shared = party.shared;
-    let answer = shared.number.when(
-        rt,
-        &mut party.number,
-        wake_nobody_at_number,
-        &shared.changed,
-        &mut party.changed,
-        |word, seen| {
-            notes.note(word.load(), *seen);
-            let _ = meeting.meet() && meeting.meet();
-            WaitAction::Abort
-        },
-        |number| (*number == 8).then_some(8),
-    );
-    (answer, notes.noted())
 }
 
 /// The value is free while the call waits, and is looked at once more after the closure's `Abort`.
 #[test]
 fn a_when_that_was_to_give_up_acts(rt: HostRuntime) -> Result<(), Fail> {
-    let (shared, pass, changed) = Shared::new(rt.alloc(), 7)?;
-    let (mut one, mut two) = shared.two_parties(pass, changed);
-    let meeting = Meeting::of(2);
-    let came_and_found = thread::join(
-        &rt,
-        || set_between(&rt, &mut one, &meeting),
-        || wait_until_set(&rt, &mut two, &meeting),
+    assert_eq!(rt;
+        wait_beside(&rt, rt.alloc(), false)?,
+        (true, (WaitResult::Success(8), (421142, 700080)))
     );
-    assert_eq!(rt; came_and_found, (true, (WaitResult::Success(8), (1, 0, 0))));
     Ok(())
 }
