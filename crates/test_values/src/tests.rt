@@ -1,4 +1,3 @@
-mod guarded;
 mod queue;
 mod rw_value;
 

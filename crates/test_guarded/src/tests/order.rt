@@ -166,17 +166,21 @@ fn a_when_unlocks_before_it_asks(rt: HostRuntime) -> Result<(), Fail> {
     Ok(())
 }
 
+/// A closure that acts by writing 8.
+fn set_eight(number: &mut u64) {
+    *number = 8;
+}
+
 /// Writes 8 as the value, and notifies nobody. Whether it had the lock.
 fn set_to_eight<R: Wait>(rt: &R, party: &mut Party<'_>) -> bool {
-    let number = &party.shared.number;
-    match Guarded::lock(&mut party.number, number, rt, yield_at_value) {
-        WaitResult::Success(mut guard) => {
-            *guard = 8;
-            Guarded::unlock(guard, wake_nobody_at_value);
-            true
-        }
-        WaitResult::Interrupted => false,
-    }
+    let set = party.shared.number.with(
+        rt,
+        &mut party.number,
+        yield_at_value,
+        wake_nobody_at_value,
+        set_eight,
+    );
+    set == WaitResult::Success(())
 }
 
 /// Changes the value to 8 between two meetings, and may notify. Whether the other came to both.
