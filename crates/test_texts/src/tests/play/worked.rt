@@ -3,7 +3,7 @@ use super::told;
 use std::test::Fail;
 
 /// A text, what is written of it, and how its run ends.
-pub(super) static TEXTS: [(&[u8], &[u8], &str); 70] = [
+pub(super) const TEXTS: [(&[u8], &[u8], &str); 70] = [
     (b"", b"", "line 1: no object, status 2"),
     (
         b"mutex 2\n1 try_lock\n1 run\n2 lock\n2 run\n2 abort\n2 run\n",
