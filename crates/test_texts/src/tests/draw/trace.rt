@@ -1,7 +1,7 @@
 //! Texts are traced by `run`, from a reader that fails, or to a writer that fails. What texts trace is tested by the tables of `texts/sync-trace`.
 
+use crate::tests::streams::{Fails, Takes};
 use std::alloc::{AllocError, Global};
-use std::io;
 use std::io::{ErrorKind, Read, Write};
 use std::test::Fail;
 use text_trace::run::run;
@@ -39,48 +39,15 @@ fn shown(alloc: Global, output: &[u8], words: &str) -> Result<String, AllocError
     Ok(shown)
 }
 
-/// A reader that fails after some bytes.
-#[derive(Drop)]
-struct Fails<'a> {
-    before: &'a [u8],
-}
-
-impl Read for Fails<'_> {
-    fn read(&mut self, buf: &mut [u8]) -> io::Result<usize> {
-        if self.before.is_empty() {
-            return Err(io::Error::from(ErrorKind::Other));
-        }
-        self.before.read(buf)
-    }
-}
-
-/// A writer that takes 7 bytes at once, and fails once it holds so many.
-#[derive(Drop)]
-struct Takes {
-    held: Vec<u8>,
-    limit: usize,
-}
-
-impl Write for Takes {
-    fn write(&mut self, buf: &[u8]) -> io::Result<usize> {
-        if self.held.len() >= self.limit {
-            return Err(io::Error::from(ErrorKind::Other));
-        }
-        let count = buf.len().min(7);
-        self.held.extend_from_slice(&buf[..count])?;
-        Ok(count)
-    }
-
-    fn flush(&mut self) -> io::Result<()> {
-        Ok(())
-    }
-}
-
 const TEXT: &[u8] = b"mutex 1\n1 try_lock\n1 run\n1 lock\n";
 
 #[test]
 fn a_reader_that_fails(rt: HostRuntime) -> Result<(), Fail> {
-    let trace = traced(rt.alloc(), &mut Fails { before: TEXT })?;
+    let mut reader = Fails {
+        before: TEXT,
+        kind: ErrorKind::Other,
+    };
+    let trace = traced(rt.alloc(), &mut reader)?;
     assert_eq!(rt; trace.as_str(), "reading failed, status 1");
     Ok(())
 }
@@ -106,7 +73,9 @@ fn writers_of_a_text_with_a_fault(rt: HostRuntime) -> Result<(), Fail> {
         let mut reader = TEXT;
         let mut writer = Takes {
             held: Vec::new(rt.alloc()),
+            at_once: 7,
             limit: *limit,
+            kind: ErrorKind::Other,
         };
         let told = told(rt.alloc(), &mut reader, &mut writer)?;
         assert_eq!(rt; (told.as_str(), writer.held.as_slice()), (*ended, *held));

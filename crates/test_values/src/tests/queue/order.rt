@@ -4,150 +4,116 @@ use super::party::{Party, first_wrong};
 use super::step::Step;
 use job_queue::{JobQueue, PutFault, Taken};
 use model_events::WaitAction;
-use running_closures::wake_nobody;
 use running_tallies::WaitWord;
 use std::alloc::{AllocError, Global};
 use std::sync::Wait;
-use std::sync::atomic::{AtomicU64, Ordering};
+use std::sync::atomic::{AtomicBool, AtomicU64, Ordering};
 use std::test::Fail;
 use std::thread;
 use std::thread::Threads;
-use test_signal::{Meeting, Notes, Signal};
+use test_signal::{Gathering, Meeting};
 
-/// What the two threads of a test tell each other.
-#[derive(Drop)]
-struct Signals {
-    /// The taker is asked.
-    asked: Signal,
-    /// The other has called its first wake.
-    woken: Signal,
-    /// The taker has answered.
-    taken: Signal,
-    /// How often the other called its wake closure.
-    wakes: AtomicU64,
-    /// How often the taker had answered by the end of that call.
-    in_time: AtomicU64,
-    /// What the taker's wait closure noted.
-    notes: Notes,
+/// Is held up, where it is to, until the other thread has come to the meeting twice. Whether it came.
+fn meet_twice(meeting: &Meeting, is_held_up: bool) -> bool {
+    is_held_up && meeting.meet() && meeting.meet()
 }
 
-impl Signals {
-    fn new() -> Signals {
-        Signals {
-            asked: Signal::new(),
-            woken: Signal::new(),
-            taken: Signal::new(),
-            wakes: AtomicU64::new(0),
-            in_time: AtomicU64::new(0),
-            notes: Notes::new(),
-        }
-    }
-
-    /// A wake, whose first call waits until the taker has answered. At its first call the state has to be changed and the mutex free,
-    /// or the taker answers something else, or not in time.
-    fn wake(&self) {
-        if self.wakes.fetch_add(1, Ordering::SeqCst) == 0 {
-            self.woken.give();
-            if self.taken.awaited() {
-                self.in_time.fetch_add(1, Ordering::SeqCst);
-            }
-        }
-    }
-
-    /// The taker is asked: it gives up once the other thread has called its first wake.
-    fn wait(&self, held: u64, told: u64) -> WaitAction {
-        self.notes.note(held, told);
-        self.asked.give();
-        self.woken.awaited();
-        WaitAction::Abort
-    }
-
-    /// What was seen: how often the wake closure was called, and whether the taker had answered within the first call; and what the
-    /// taker's wait closure noted.
-    fn seen(&self) -> Seen {
-        (
-            (
-                self.wakes.load(Ordering::SeqCst),
-                self.in_time.load(Ordering::SeqCst),
-            ),
-            self.notes.noted(),
-        )
-    }
-}
-
-type Seen = ((u64, u64), (u64, u64, u64));
-
-/// Takes. The wait closure answers `Abort` once the other thread has called its first wake.
-fn take_and_give_up<R: Wait>(rt: &R, party: &mut Party<'_>, signals: &Signals) -> Taken<u64> {
+/// Takes, with a wait closure that answers `Abort`, held up in its first wake, or else in that closure; then it comes once more. What it
+/// took, and its closures with what each was told; the wait closure comes twice, first with what its word held.
+fn take_held_up<R: Wait>(
+    rt: &R,
+    party: &mut Party<'_>,
+    meeting: &Meeting,
+    in_wake: bool,
+) -> (Taken<u64>, (u64, u64)) {
+    let gathering = Gathering::new();
     let queue = party.queue;
     let taken = queue.take(
         rt,
         &mut party.pass,
-        |word, seen| signals.wait(word.load(), *seen),
-        wake_nobody,
+        |word, seen| {
+            gathering.wait(word.load());
+            gathering.wait(*seen);
+            meet_twice(meeting, !in_wake);
+            WaitAction::Abort
+        },
+        |word| {
+            gathering.wake_one(word.load());
+            meet_twice(meeting, in_wake && gathering.gathered().0 == 2);
+        },
     );
-    signals.taken.give();
-    taken
+    if !in_wake {
+        meeting.meet();
+    }
+    (taken, gathering.gathered())
 }
 
-/// What the other thread does once the taker is asked.
+/// What the other thread does while the taker is held up.
 #[derive(Drop)]
 enum Change {
     Put,
     Close,
 }
 
-/// Does so, held up in its first wake. Whether the taker was asked, and the job put.
-fn change_held_up<R: Wait>(
+/// Does so. Where the taker was asked, this is held up in its first wake until that has taken. Whether all of it came, and how often it
+/// woke.
+fn change_beside<R: Wait>(
     rt: &R,
     party: &mut Party<'_>,
-    signals: &Signals,
+    meeting: &Meeting,
     change: &Change,
-) -> bool {
-    if !signals.asked.awaited() {
-        return false;
-    }
+    in_wake: bool,
+) -> (bool, u64) {
+    let wakes = AtomicU64::new(0);
+    let taken_in_time = AtomicBool::new(in_wake);
+    let came = meeting.meet();
     let queue = party.queue;
-    let wake = |_: &WaitWord| signals.wake();
-    match change {
+    let wake = |_: &WaitWord| {
+        if wakes.fetch_add(1, Ordering::SeqCst) == 0 && meet_twice(meeting, !in_wake) {
+            taken_in_time.store(true, Ordering::SeqCst);
+        }
+    };
+    let changed = match change {
         Change::Put => queue.put(rt, &mut party.pass, 7, wake).is_ok(),
         Change::Close => {
             queue.close(rt, &mut party.pass, wake);
             true
         }
-    }
+    };
+    let over = !in_wake || meeting.meet();
+    (
+        came && changed && over && taken_in_time.load(Ordering::SeqCst),
+        wakes.load(Ordering::SeqCst),
+    )
 }
 
-/// A take that gives up while the other thread changes the queue: what it took, whether that was changed, and what was seen.
+/// A take that is held up, in its first wake or else in its wait closure, while another thread changes the queue: what both came to.
 fn take_beside<R: Threads + Wait + Sync>(
     rt: &R,
     alloc: Global,
     change: &Change,
-) -> Result<((Taken<u64>, bool), Seen), AllocError> {
+    in_wake: bool,
+) -> Result<((bool, u64), (Taken<u64>, (u64, u64))), AllocError> {
     let (queue, pass) = JobQueue::new(alloc, 2)?;
     let party = Party {
         queue: &queue,
         pass,
     };
-    let (mut taking, mut changing) = party.parts();
-    let signals = Signals::new();
-    let taken_and_changed = thread::join(
+    let (mut changing, mut taking) = party.parts();
+    let meeting = Meeting::of(2);
+    Ok(thread::join(
         rt,
-        || take_and_give_up(rt, &mut taking, &signals),
-        || change_held_up(rt, &mut changing, &signals, change),
-    );
-    Ok((taken_and_changed, signals.seen()))
+        || change_beside(rt, &mut changing, &meeting, change, in_wake),
+        || take_held_up(rt, &mut taking, &meeting, in_wake),
+    ))
 }
 
 /// The job is in the queue and the mutex free before anybody is woken, and who gives up looks once more.
 #[test]
 fn a_job_that_is_put_is_there_before_its_wake(rt: HostRuntime) -> Result<(), Fail> {
     assert_eq!(rt;
-        take_beside(&rt, rt.alloc(), &Change::Put)?,
-        (
-            (Taken::Job { ticket: 0, job: 7 }, true),
-            ((2, 1), (1, 0, 0))
-        )
+        take_beside(&rt, rt.alloc(), &Change::Put, false)?,
+        ((true, 2), (Taken::Job { ticket: 0, job: 7 }, (2112, 0)))
     );
     Ok(())
 }
@@ -156,67 +122,18 @@ fn a_job_that_is_put_is_there_before_its_wake(rt: HostRuntime) -> Result<(), Fai
 #[test]
 fn a_queue_is_closed_before_its_wake(rt: HostRuntime) -> Result<(), Fail> {
     assert_eq!(rt;
-        take_beside(&rt, rt.alloc(), &Change::Close)?,
-        ((Taken::Closed, true), ((2, 1), (1, 0, 0)))
+        take_beside(&rt, rt.alloc(), &Change::Close, false)?,
+        ((true, 2), (Taken::Closed, (2112, 0)))
     );
     Ok(())
-}
-
-/// Puts a job between two meetings. Whether the other came to both.
-fn put_between<R: Wait>(rt: &R, party: &mut Party<'_>, meeting: &Meeting) -> bool {
-    let queue = party.queue;
-    meeting.meet() && queue.put(rt, &mut party.pass, 7, wake_nobody).is_ok() && meeting.meet()
-}
-
-/// A wake, whose first call is held up while the other thread puts a job.
-fn wake_between(wakes: &AtomicU64, meeting: &Meeting) {
-    if wakes.fetch_add(1, Ordering::SeqCst) == 0 {
-        let _ = meeting.meet() && meeting.meet();
-    }
-}
-
-/// Takes, held up in its first wake while the other thread puts a job. What it took, and how often its wait closure was asked.
-fn take_held_up<R: Wait>(rt: &R, party: &mut Party<'_>, meeting: &Meeting) -> (Taken<u64>, u64) {
-    let wakes = AtomicU64::new(0);
-    let asked = AtomicU64::new(0);
-    let queue = party.queue;
-    let taken = queue.take(
-        rt,
-        &mut party.pass,
-        |_, _| {
-            asked.fetch_add(1, Ordering::SeqCst);
-            WaitAction::Abort
-        },
-        |_| wake_between(&wakes, meeting),
-    );
-    (taken, asked.load(Ordering::SeqCst))
-}
-
-/// A put between two meetings beside a take that is held up: what each came to.
-fn put_beside_a_take<R: Threads + Wait + Sync>(
-    rt: &R,
-    alloc: Global,
-) -> Result<(bool, (Taken<u64>, u64)), AllocError> {
-    let (queue, pass) = JobQueue::new(alloc, 2)?;
-    let party = Party {
-        queue: &queue,
-        pass,
-    };
-    let (mut putting, mut taking) = party.parts();
-    let meeting = Meeting::of(2);
-    Ok(thread::join(
-        rt,
-        || put_between(rt, &mut putting, &meeting),
-        || take_held_up(rt, &mut taking, &meeting),
-    ))
 }
 
 /// The taker was counted before it unlocked the mutex. So a notify that comes then is not lost: it has a permit, and is not asked.
 #[test]
 fn a_taker_is_counted_before_it_unlocks(rt: HostRuntime) -> Result<(), Fail> {
     assert_eq!(rt;
-        put_beside_a_take(&rt, rt.alloc())?,
-        (true, (Taken::Job { ticket: 0, job: 7 }, 0))
+        take_beside(&rt, rt.alloc(), &Change::Put, true)?,
+        ((true, 2), (Taken::Job { ticket: 0, job: 7 }, (22, 0)))
     );
     Ok(())
 }

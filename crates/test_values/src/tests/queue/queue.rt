@@ -3,8 +3,8 @@ ghost use Rattle.job_queue.specs.QueueShown.{IsQueuePass, IsWholePass};
 
 use super::party::first_wrong;
 use super::step::Step;
+use crate::tests::give_up;
 use job_queue::{JobQueue, PutFault, QueuePass, Taken};
-use model_events::WaitAction;
 use running_closures::wake_nobody;
 use std::alloc::{AllocError, Allocator, Global};
 use std::sync::Wait;
@@ -74,7 +74,7 @@ fn take_at_once<R: Wait>(rt: &R, queue: &JobQueue<u64>, pass: &mut QueuePass) ->
     requires own { IsQueuePass queue.now pass.old }
     ensures own { IsQueuePass queue.now pass.new }
 {
-    queue.take(rt, pass, |_, _| WaitAction::Abort, wake_nobody)
+    queue.take(rt, pass, give_up, wake_nobody)
 }
 
 /// Puts two jobs.

@@ -33,13 +33,23 @@ fn put_soon<R: Wait>(rt: &R, party: &mut Party<'_>, job: u64) -> bool {
 }
 
 /// Puts 100 jobs; whether all were put.
-fn produce<R: Wait>(rt: &R, party: &mut Party<'_>) -> bool {
+fn put_all<R: Wait>(rt: &R, party: &mut Party<'_>) -> bool {
     for job in 0..JOBS {
         if !put_soon(rt, party, job) {
             return false;
         }
     }
     true
+}
+
+/// Puts 100 jobs, and closes the queue where the other producer has ended. Whether all were put.
+fn produce<R: Wait>(rt: &R, party: &mut Party<'_>, ended: &AtomicU64) -> bool {
+    let all = put_all(rt, party);
+    if ended.fetch_add(1, Ordering::SeqCst) == 1 {
+        let queue = party.queue;
+        queue.close(rt, &mut party.pass, wake_nobody);
+    }
+    all
 }
 
 /// The answer of a wait that goes on until it was asked often.
@@ -85,45 +95,37 @@ fn consume<R: Wait>(rt: &R, alloc: Global, party: &mut Party<'_>) -> Tickets {
     Ok((tickets, closed))
 }
 
-/// Two producers, and then one that closes. Whether both put all.
-fn produce_and_close<R: Threads + Wait + Sync>(rt: &R, party: Party<'_>) -> bool {
-    let (producers, mut closer) = party.parts();
-    let (mut one, mut two) = producers.parts();
-    let (first, second) = thread::join(rt, || produce(rt, &mut one), || produce(rt, &mut two));
-    let queue = closer.queue;
-    queue.close(rt, &mut closer.pass, wake_nobody);
-    first && second
-}
-
-/// Two consumers.
-fn consume_by_two<R: Threads + Wait + Sync>(
+/// A producer and a consumer.
+fn produce_and_consume<R: Threads + Wait + Sync>(
     rt: &R,
     alloc: Global,
     party: Party<'_>,
-) -> (Tickets, Tickets) {
+    ended: &AtomicU64,
+) -> (bool, Tickets) {
     let (mut one, mut two) = party.parts();
     thread::join(
         rt,
-        || consume(rt, alloc, &mut one),
+        || produce(rt, &mut one, ended),
         || consume(rt, alloc, &mut two),
     )
 }
 
-/// Two producers, two consumers, and one that closes once both producers have ended.
+/// Two producers, the later of which closes the queue, and two consumers.
 fn four_threads<R: Threads + Wait + Sync>(
     rt: &R,
     alloc: Global,
-) -> Result<(bool, (Tickets, Tickets)), AllocError> {
+) -> Result<((bool, Tickets), (bool, Tickets)), AllocError> {
     let (queue, pass) = JobQueue::new(alloc, 8)?;
     let party = Party {
         queue: &queue,
         pass,
     };
-    let (producers, consumers) = party.parts();
+    let (one, other) = party.parts();
+    let ended = AtomicU64::new(0);
     Ok(thread::join(
         rt,
-        || produce_and_close(rt, producers),
-        || consume_by_two(rt, alloc, consumers),
+        || produce_and_consume(rt, alloc, one, &ended),
+        || produce_and_consume(rt, alloc, other, &ended),
     ))
 }
 
@@ -158,8 +160,8 @@ fn all_tickets(one: Tickets, other: Tickets) -> Result<(bool, bool, Option<usize
 /// Both consumers end with `Closed`, each has its tickets in order, and all are 0 to 199, each once.
 #[test]
 fn two_producers_and_two_consumers(rt: HostRuntime) -> Result<(), Fail> {
-    let (put, (one, other)) = four_threads(&rt, rt.alloc())?;
+    let ((first, one), (second, other)) = four_threads(&rt, rt.alloc())?;
     let taken = all_tickets(one, other)?;
-    assert_eq!(rt; (put, taken), (true, (true, true, Some(200))));
+    assert_eq!(rt; (first && second, taken), (true, (true, true, Some(200))));
     Ok(())
 }

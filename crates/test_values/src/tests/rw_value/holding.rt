@@ -3,19 +3,14 @@ ghost use Rattle.std.specs.Prelude.{◌≡◌, ◌<◌, ◌+◌};
 ghost use Rattle.running_rw_writer.specs.RwWriterShown.{HasStayed};
 ghost use Rattle.running_rw_value.specs.RwValueShown.{IsRwValuePass};
 
-use model_events::WaitAction;
+use super::{in_two_parts, new_lock};
+use crate::tests::give_up;
 use running_closures::{wake_nobody, yield_and_go_on};
 use running_passes::WaitResult;
 use running_rw_value::RwLock;
 use running_rw_writer::{RwLockWriterPreference, RwWriterPass};
-use running_tallies::WaitWord;
 use std::sync::Wait;
 use std::test::Fail;
-
-/// A wait closure that gives up at once.
-fn give_up(_word: &WaitWord, _seen: &u64) -> WaitAction {
-    WaitAction::Abort
-}
 
 /// What `try_read` finds now, if a reader enters.
 fn read_now<R: Wait>(rt: &R, lock: &RwLock<u64>, pass: &mut RwWriterPass) -> Option<u64>
@@ -182,12 +177,7 @@ fn beside_a_writer<R: Wait>(
 fn a_reader_lets_readers_in_and_a_writer_that_gives_up_leaves_no_mark(
     rt: HostRuntime,
 ) -> Result<(), Fail> {
-    let Ok((lock, pass)) = RwLock::new(rt.alloc(), 7u64) else {
-        return Err("no memory")?;
-    };
-    let Ok((mut one, mut two)) = pass.split(lock.front()) else {
-        unreachable!()
-    };
+    let (lock, mut one, mut two) = in_two_parts(rt.alloc())?;
     let found = beside_a_reader(&rt, &lock, &mut one, &mut two);
     assert_eq!(rt; found, (Some(7), false, true, Some(7)));
     Ok(())
@@ -195,12 +185,7 @@ fn a_reader_lets_readers_in_and_a_writer_that_gives_up_leaves_no_mark(
 
 #[test]
 fn a_writer_is_alone(rt: HostRuntime) -> Result<(), Fail> {
-    let Ok((lock, pass)) = RwLock::new(rt.alloc(), 7u64) else {
-        return Err("no memory")?;
-    };
-    let Ok((mut one, mut two)) = pass.split(lock.front()) else {
-        unreachable!()
-    };
+    let (lock, mut one, mut two) = in_two_parts(rt.alloc())?;
     let found = beside_a_writer(&rt, &lock, &mut one, &mut two);
     assert_eq!(rt; found, (None, false, true, 7));
     Ok(())
@@ -208,12 +193,7 @@ fn a_writer_is_alone(rt: HostRuntime) -> Result<(), Fail> {
 
 #[test]
 fn a_write_acts_before_it_unlocks(rt: HostRuntime) -> Result<(), Fail> {
-    let Ok((lock, pass)) = RwLock::new(rt.alloc(), 7u64) else {
-        return Err("no memory")?;
-    };
-    let Ok((mut one, mut two)) = pass.split(lock.front()) else {
-        unreachable!()
-    };
+    let (lock, mut one, mut two) = in_two_parts(rt.alloc())?;
     let found = shut_within(&rt, &lock, &mut one, &mut two);
     assert_eq!(rt; found, (WaitResult::Success(true), false));
     Ok(())
@@ -221,9 +201,7 @@ fn a_write_acts_before_it_unlocks(rt: HostRuntime) -> Result<(), Fail> {
 
 #[test]
 fn what_a_guard_changed_it_lends_and_comes_out(rt: HostRuntime) -> Result<(), Fail> {
-    let Ok((lock, mut pass)) = RwLock::new(rt.alloc(), 7u64) else {
-        return Err("no memory")?;
-    };
+    let (lock, mut pass) = new_lock(rt.alloc(), 7)?;
     let lent = put_and_add(&rt, &lock, &mut pass, 40);
     assert_eq!(rt; (lent, lock.into_inner(pass)), ((40, 41), 41));
     Ok(())
@@ -231,9 +209,7 @@ fn what_a_guard_changed_it_lends_and_comes_out(rt: HostRuntime) -> Result<(), Fa
 
 #[test]
 fn a_value_that_was_written_comes_out(rt: HostRuntime) -> Result<(), Fail> {
-    let Ok((lock, mut pass)) = RwLock::new(rt.alloc(), 7u64) else {
-        return Err("no memory")?;
-    };
+    let (lock, mut pass) = new_lock(rt.alloc(), 7)?;
     let wrote = write_or_give_up(&rt, &lock, &mut pass, 9);
     let found = lock.into_inner(pass);
     assert!(rt; wrote && found == 9);

@@ -1,16 +1,16 @@
 //! Threads that meet at the value.
-ghost use Rattle.running_passes.specs.Parts.{IsWhole};
-ghost use Rattle.running_rw_writer.specs.RwWriterShown.{HasStayed, part_in};
+ghost use Rattle.running_rw_writer.specs.RwWriterShown.{HasStayed};
 ghost use Rattle.running_rw_value.specs.RwValueShown.{IsRwValuePass};
 
+use super::{in_two_parts, new_lock};
 use running_closures::{wake_nobody, yield_and_go_on};
 use running_passes::WaitResult;
 use running_rw_value::RwLock;
 use running_rw_writer::RwWriterPass;
+use running_sharing::in_threads;
 use std::sync::Wait;
 use std::test::Fail;
 use std::thread;
-use std::thread::Threads;
 use test_signal::Meeting;
 
 /// Reads, and waits within for the other reader: whether it came, and what was read.
@@ -35,12 +35,7 @@ fn meet_within<R: Wait>(
 
 #[test]
 fn two_readers_are_inside_at_once(rt: HostRuntime) -> Result<(), Fail> {
-    let Ok((lock, pass)) = RwLock::new(rt.alloc(), 7u64) else {
-        return Err("no memory")?;
-    };
-    let Ok((mut one, mut two)) = pass.split(lock.front()) else {
-        unreachable!()
-    };
+    let (lock, mut one, mut two) = in_two_parts(rt.alloc())?;
     let meeting = Meeting::of(2);
     let met = thread::join(
         &rt,
@@ -51,12 +46,12 @@ fn two_readers_are_inside_at_once(rt: HostRuntime) -> Result<(), Fail> {
     Ok(())
 }
 
-/// Adds 1 to the value, so often.
-fn count_up<R: Wait>(rt: &R, lock: &RwLock<u64>, mut pass: RwWriterPass, times: u64) -> RwWriterPass
+/// Adds 1 to the value 2500 times.
+fn count_up<R: Wait>(rt: &R, lock: &RwLock<u64>, mut pass: RwWriterPass) -> RwWriterPass
     requires own { IsRwValuePass lock.now pass }
     ensures stayed { HasStayed pass result }
 {
-    for _ in 0..times {
+    for _ in 0..2500u64 {
         let counted = lock.with_write(
             rt,
             &mut pass,
@@ -73,36 +68,10 @@ fn count_up<R: Wait>(rt: &R, lock: &RwLock<u64>, mut pass: RwWriterPass, times: 
     pass
 }
 
-/// Two threads count up, with the parts of this pass: what the value then is.
-fn count_up_by_two<R: Threads + Wait + Sync>(rt: &R, lock: RwLock<u64>, pass: RwWriterPass) -> u64
-    requires own { IsRwValuePass lock pass }
-    requires whole { IsWhole (part_in pass) }
-{
-    let Ok((one, two)) = pass.split(lock.front()) else {
-        unreachable!()
-    };
-    let (one, two) = thread::join(
-        rt,
-        || -> RwWriterPass
-            requires { IsRwValuePass lock one }
-            ensures { HasStayed one result }
-        { count_up(rt, &lock, one, 2000) },
-        || -> RwWriterPass
-            requires { IsRwValuePass lock two }
-            ensures { HasStayed two result }
-        { count_up(rt, &lock, two, 3000) },
-    );
-    let Ok(pass) = RwWriterPass::join(one, two, lock.front()) else {
-        unreachable!()
-    };
-    lock.into_inner(pass)
-}
-
 #[test]
 fn no_addition_is_lost(rt: HostRuntime) -> Result<(), Fail> {
-    let Ok((lock, pass)) = RwLock::new(rt.alloc(), 0u64) else {
-        return Err("no memory")?;
-    };
-    assert_eq!(rt; count_up_by_two(&rt, lock, pass), 5000);
+    let (lock, pass) = new_lock(rt.alloc(), 0)?;
+    let pass = in_threads(&rt, &lock, pass, 2, &|pass| { count_up(&rt, &lock, pass) });
+    assert_eq!(rt; lock.into_inner(pass), 5000);
     Ok(())
 }

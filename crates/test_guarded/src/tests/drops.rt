@@ -1,6 +1,7 @@
 //! The value ends once.
 ghost use Rattle.running_guarded.specs.GuardedShown.{IsGuardedPass};
 
+use super::wake_nobody_at_value;
 use linked_list_allocator::LocalHeap;
 use running_guarded::{Guarded, GuardedPass};
 use running_passes::WaitResult;
@@ -26,7 +27,7 @@ fn lock_once(guarded: &Guarded<Counted<'_>>, pass: &mut GuardedPass) -> bool
 {
     match Guarded::try_lock(pass, guarded) {
         WaitResult::Success(guard) => {
-            Guarded::unlock(guard, |_| ());
+            Guarded::unlock(guard, wake_nobody_at_value);
             true
         }
         WaitResult::Interrupted => false,

@@ -3,14 +3,16 @@ ghost use Rattle.std.specs.Prelude.{◌≡◌, ◌+◌};
 ghost use Rattle.running_guarded.specs.GuardedShown.{IsGuardedPass, IsSamePass};
 
 use super::party::in_two_parts;
-use super::wake_nobody_at_number;
+use super::wake_nobody_at_value;
 use model_events::WaitAction;
 use running_guarded::{Guarded, GuardedPass};
 use running_passes::WaitResult;
+use std::alloc::{AllocError, Global};
 use std::sync::Wait;
 use std::sync::atomic::{AtomicBool, Ordering};
 use std::test::Fail;
 use std::thread;
+use std::thread::Threads;
 use test_signal::{Meeting, Notes};
 
 /// Whether `try_lock` is refused now.
@@ -21,35 +23,45 @@ pub(super) fn is_refused(guarded: &Guarded<u64>, pass: &mut GuardedPass) -> bool
 {
     match Guarded::try_lock(pass, guarded) {
         WaitResult::Success(guard) => {
-            Guarded::unlock(guard, wake_nobody_at_number);
+            Guarded::unlock(guard, wake_nobody_at_value);
             false
         }
         WaitResult::Interrupted => true,
     }
 }
 
-/// A `lock` whose wait closure answers `Abort` at once: whether it was interrupted, and what the closure noted.
-fn lock_and_abort<R: Wait>(
+/// What a `lock` came to: what its guard lends, if it was granted, and what its wait closure noted.
+type Locked = (Option<u64>, (u64, u64, u64));
+
+/// Locks, with a wait closure that answers so once all have come to the meeting twice.
+fn lock_noted<R: Wait>(
     rt: &R,
     guarded: &Guarded<u64>,
     pass: &mut GuardedPass,
-) -> (bool, (u64, u64, u64))
+    meeting: &Meeting,
+    action: WaitAction,
+) -> Locked
     requires { IsGuardedPass guarded.now pass.old }
     ensures { IsSamePass pass.old pass.new }
 {
     let notes = Notes::new();
     let locked = Guarded::lock(pass, guarded, rt, |word, seen| {
         notes.note(word.load(), *seen);
-        WaitAction::Abort
-    });
-    let interrupted = match locked {
-        WaitResult::Success(guard) => {
-            Guarded::unlock(guard, wake_nobody_at_number);
-            false
+        if meeting.meet() && meeting.meet() {
+            action
+        } else {
+            WaitAction::Abort
         }
-        WaitResult::Interrupted => true,
+    });
+    let found = match locked {
+        WaitResult::Success(guard) => {
+            let found = *guard;
+            Guarded::unlock(guard, wake_nobody_at_value);
+            Some(found)
+        }
+        WaitResult::Interrupted => None,
     };
-    (interrupted, notes.noted())
+    (found, notes.noted())
 }
 
 /// Whether `two` is refused while `one` has the guard, and what its `lock` does then.
@@ -58,15 +70,15 @@ fn while_held<R: Wait>(
     guarded: &Guarded<u64>,
     one: &mut GuardedPass,
     two: &mut GuardedPass,
-) -> Option<(bool, (bool, (u64, u64, u64)))>
+) -> Option<(bool, Locked)>
     requires { IsGuardedPass guarded.now one.old × IsGuardedPass guarded.now two.old }
     ensures { IsSamePass one.old one.new × IsSamePass two.old two.new }
 {
     match Guarded::try_lock(one, guarded) {
         WaitResult::Success(guard) => {
             let refused = is_refused(guarded, two);
-            let aborted = lock_and_abort(rt, guarded, two);
-            Guarded::unlock(guard, wake_nobody_at_number);
+            let aborted = lock_noted(rt, guarded, two, &Meeting::of(1), WaitAction::Abort);
+            Guarded::unlock(guard, wake_nobody_at_value);
             Some((refused, aborted))
         }
         WaitResult::Interrupted => None,
@@ -78,10 +90,10 @@ fn one_holder_at_a_time(rt: HostRuntime) -> Result<(), Fail> {
     let (guarded, mut one, mut two) = in_two_parts(rt.alloc(), 0)?;
     let held = while_held(&rt, &guarded, &mut one, &mut two);
     let refused = is_refused(&guarded, &mut two);
-    let free = lock_and_abort(&rt, &guarded, &mut one);
+    let free = lock_noted(&rt, &guarded, &mut one, &Meeting::of(1), WaitAction::Abort);
     assert_eq!(rt;
         (held, refused, free),
-        (Some((true, (true, (1, 1, 1)))), false, (false, (0, 0, 0)))
+        (Some((true, (None, (1, 1, 1)))), false, (Some(0), (0, 0, 0)))
     );
     Ok(())
 }
@@ -105,36 +117,35 @@ fn hold_until_asked(guarded: &Guarded<u64>, pass: &mut GuardedPass, meeting: &Me
     }
 }
 
-/// Locks once the other thread has the value, with a closure that answers so once it is free. What the guard lends, and what the closure
-/// noted.
+/// Locks once the other thread has the value, with a closure that answers so once it is free. Whether the other came to the meetings
+/// before and after that, and what the lock came to.
 fn lock_after_unlock<R: Wait>(
     rt: &R,
     guarded: &Guarded<u64>,
     pass: &mut GuardedPass,
     meeting: &Meeting,
     action: WaitAction,
-) -> Option<(u64, (u64, u64, u64))>
+) -> (bool, Locked)
     requires { IsGuardedPass guarded.now pass.old }
 {
-    let notes = Notes::new();
     let is_held = meeting.meet();
-    let answer = Guarded::lock(pass, guarded, rt, |word, seen| {
-        notes.note(word.load(), *seen);
-        if meeting.meet() && meeting.meet() {
-            action
-        } else {
-            WaitAction::Abort
-        }
-    });
-    let found = match answer {
-        WaitResult::Success(guard) => {
-            let found = *guard;
-            Guarded::unlock(guard, wake_nobody_at_number);
-            found
-        }
-        WaitResult::Interrupted => return None,
-    };
-    (is_held && meeting.meet()).then_some((found, notes.noted()))
+    let locked = lock_noted(rt, guarded, pass, meeting, action);
+    (is_held && meeting.meet(), locked)
+}
+
+/// One thread locks while another holds the value, with a closure that answers so: what both came to.
+fn lock_beside<R: Threads + Wait + Sync>(
+    rt: &R,
+    alloc: Global,
+    action: WaitAction,
+) -> Result<(bool, (bool, Locked)), AllocError> {
+    let (guarded, mut one, mut two) = in_two_parts(alloc, 0)?;
+    let meeting = Meeting::of(2);
+    Ok(thread::join(
+        rt,
+        || hold_until_asked(&guarded, &mut one, &meeting),
+        || lock_after_unlock(rt, &guarded, &mut two, &meeting, action),
+    ))
 }
 
 /// The holder is held up in its wake until the other has had the value, so the value is free before the wake; and the other looks once more,
@@ -142,14 +153,10 @@ fn lock_after_unlock<R: Wait>(
 #[test]
 fn a_call_that_was_to_give_up_succeeds(rt: HostRuntime) -> Result<(), Fail> {
     for action in [WaitAction::Abort, WaitAction::Continue] {
-        let (guarded, mut one, mut two) = in_two_parts(rt.alloc(), 0)?;
-        let meeting = Meeting::of(2);
-        let met_and_found = thread::join(
-            &rt,
-            || hold_until_asked(&guarded, &mut one, &meeting),
-            || lock_after_unlock(&rt, &guarded, &mut two, &meeting, action),
+        assert_eq!(rt;
+            lock_beside(&rt, rt.alloc(), action)?,
+            (true, (true, (Some(7), (1, 1, 1))))
         );
-        assert_eq!(rt; met_and_found, (true, Some((7, (1, 1, 1)))));
     }
     Ok(())
 }

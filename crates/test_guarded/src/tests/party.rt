@@ -1,11 +1,29 @@
 //! Parties at a guarded number, and at a condition variable where its changes are waited for.
 ghost use Rattle.std.specs.Prelude.{◌≡◌, IfOk};
+ghost use Rattle.running_passes.specs.Parts.{IsWhole};
 ghost use Rattle.running_mutex.specs.CondShown.{IsCondPass};
-ghost use Rattle.running_guarded.specs.GuardedShown.{IsGuardedPass};
+ghost use Rattle.running_guarded.specs.GuardedShown.{IsGuardedPass, part_of};
 
+use super::wake_nobody_at_value;
 use running_guarded::{Guarded, GuardedPass};
 use running_mutex::condition_variable::{CondPass, ConditionVariable};
 use std::alloc::{AllocError, Global};
+use std::mem;
+use std::sync::Wait;
+use std::sync::atomic::{AtomicU64, Ordering};
+
+/// A guarded number, and its pass.
+pub(super) fn new_guarded(
+    alloc: Global,
+    number: u64,
+) -> Result<(Guarded<u64>, GuardedPass), AllocError>
+    ensures own { IfOk result (λ made. IsGuardedPass made.0 made.1 × IsWhole (part_of made.1)) }
+{
+    match Guarded::new(alloc, number) {
+        Ok(made) => Ok(made),
+        Err((error, _)) => Err(error),
+    }
+}
 
 /// A guarded number, and two parts of its pass.
 pub(super) fn in_two_parts(
@@ -14,10 +32,7 @@ pub(super) fn in_two_parts(
 ) -> Result<(Guarded<u64>, GuardedPass, GuardedPass), AllocError>
     ensures own { IfOk result (λ made. IsGuardedPass made.0 made.1 × IsGuardedPass made.0 made.2) }
 {
-    let (guarded, pass) = match Guarded::new(alloc, number) {
-        Ok(made) => made,
-        Err((error, _)) => return Err(error),
-    };
+    let (guarded, pass) = new_guarded(alloc, number)?;
     match pass.split(&guarded) {
         Ok((one, two)) => Ok((guarded, one, two)),
         Err(_) => unreachable!(),
@@ -40,10 +55,8 @@ impl Shared {
         ensures own { IfOk result (λ made. IsGuardedPass made.0.number made.1 × IsCondPass made.0.changed made.2) }
     {
         let (changed, changed_pass) = ConditionVariable::new(alloc)?;
-        match Guarded::new(alloc, number) {
-            Ok((number, pass)) => Ok((Shared { number, changed }, pass, changed_pass)),
-            Err((error, _)) => Err(error),
-        }
+        let (number, pass) = new_guarded(alloc, number)?;
+        Ok((Shared { number, changed }, pass, changed_pass))
     }
 
     /// A party with these passes.
@@ -86,4 +99,25 @@ pub(super) struct Party<'s> {
     pub(super) number: GuardedPass,
     pub(super) changed: CondPass,
     ghost own: { IsGuardedPass shared.now.number number × IsCondPass shared.now.changed changed },
+}
+
+/// Changes the number to this, and notifies. What it was; the calls of the closure that wakes all are counted.
+pub(super) fn change_to<R: Wait>(
+    rt: &R,
+    party: &mut Party<'_>,
+    woken: &AtomicU64,
+    number: u64,
+) -> u64 {
+    let shared = party.shared;
+    shared.number.change(
+        rt,
+        &mut party.number,
+        wake_nobody_at_value,
+        &shared.changed,
+        &mut party.changed,
+        |_| {
+            woken.fetch_add(1, Ordering::SeqCst);
+        },
+        |value| mem::replace(value, number),
+    )
 }

@@ -3,10 +3,10 @@ ghost use Rattle.std.specs.Prelude.{IfOk};
 ghost use Rattle.running_mutex.specs.CondShown.{IsCondPass};
 ghost use Rattle.running_guarded.specs.GuardedShown.{IsGuardedPass};
 
-use super::party::{Party, Shared};
-use super::wake_nobody_at_number;
+use super::order::{GAVE_UP, wait_alone};
+use super::party::{Party, Shared, change_to};
+use super::wake_nobody_at_value;
 use circular_buffer::HeapCircularBuffer;
-use model_events::WaitAction;
 use running_closures::{wake_nobody, yield_and_go_on};
 use running_guarded::{Guarded, GuardedPass};
 use running_mutex::condition_variable::{CondPass, ConditionVariable};
@@ -15,8 +15,8 @@ use std::alloc::{AllocError, Global};
 use std::sync::Wait;
 use std::sync::atomic::{AtomicU64, Ordering};
 use std::test::Fail;
+use std::thread;
 use std::thread::Threads;
-use std::{mem, thread};
 
 /// A bounded buffer of numbers. Who puts waits for room, and who takes waits for a number, each at a condition variable of its own.
 #[derive(Drop)]
@@ -162,74 +162,24 @@ fn a_bounded_buffer_keeps_its_order(rt: HostRuntime) -> Result<(), Fail> {
     Ok(())
 }
 
-/// How often a call asked that never can act, and how often it tried to, where its wait closure answers `Abort` at once.
-fn wait_for_nothing<R: Wait>(rt: &R, party: &mut Party<'_>) -> Option<(u64, u64)> {
-    let asked = AtomicU64::new(0);
-    let tried = AtomicU64::new(0);
-    let shared = party.shared;
-    let answer: WaitResult<u64> = shared.number.when(
-        rt,
-        &mut party.number,
-        wake_nobody_at_number,
-        &shared.changed,
-        &mut party.changed,
-        |_, _| {
-            asked.fetch_add(1, Ordering::SeqCst);
-            WaitAction::Abort
-        },
-        |_number| {
-            tried.fetch_add(1, Ordering::SeqCst);
-            None
-        },
-    );
-    match answer {
-        WaitResult::Success(_) => None,
-        WaitResult::Interrupted => Some((
-            asked.load(Ordering::SeqCst),
-            tried.load(Ordering::SeqCst),
-        )),
-    }
-}
-
+/// And so does the next.
 #[test]
 fn a_call_that_cannot_act_gives_up(rt: HostRuntime) -> Result<(), Fail> {
-    let (shared, pass, changed) = Shared::new(rt.alloc(), 7)?;
-    let mut party = shared.party(pass, changed);
-    assert_eq!(rt; wait_for_nothing(&rt, &mut party), Some((1, 2)));
+    assert_eq!(rt; wait_alone(&rt, rt.alloc(), 8, 8)?, [GAVE_UP, GAVE_UP]);
     Ok(())
 }
 
 /// Waits until the number is this, and answers it.
-fn wait_for<R: Wait>(rt: &R, party: &mut Party<'_>, wanted: u64) -> u64 {
+fn wait_for<R: Wait>(rt: &R, party: &mut Party<'_>, wanted: u64) -> WaitResult<u64> {
     let shared = party.shared;
-    let looked = shared.number.when(
+    shared.number.when(
         rt,
         &mut party.number,
-        wake_nobody_at_number,
+        wake_nobody_at_value,
         &shared.changed,
         &mut party.changed,
         yield_and_go_on,
         |number| (*number == wanted).then_some(wanted),
-    );
-    match looked {
-        WaitResult::Success(seen) => seen,
-        WaitResult::Interrupted => unreachable!(),
-    }
-}
-
-/// Changes the number to this, and answers what it was.
-fn change_to<R: Wait>(rt: &R, party: &mut Party<'_>, woken: &AtomicU64, number: u64) -> u64 {
-    let shared = party.shared;
-    shared.number.change(
-        rt,
-        &mut party.number,
-        wake_nobody_at_number,
-        &shared.changed,
-        &mut party.changed,
-        |_| {
-            woken.fetch_add(1, Ordering::SeqCst);
-        },
-        |value| mem::replace(value, number),
     )
 }
 
@@ -242,7 +192,10 @@ fn change_twice<R: Wait>(rt: &R, mut party: Party<'_>) -> (u64, u64, u64) {
 }
 
 /// Two threads wait for 2, with parts of this party's passes.
-fn wait_by_two<R: Threads + Wait + Sync>(rt: &R, party: Party<'_>) -> (u64, u64) {
+fn wait_by_two<R: Threads + Wait + Sync>(
+    rt: &R,
+    party: Party<'_>,
+) -> (WaitResult<u64>, WaitResult<u64>) {
     let Party {
         shared,
         number,
@@ -262,6 +215,9 @@ fn a_change_is_seen_by_all_that_wait(rt: HostRuntime) -> Result<(), Fail> {
     let (shared, pass, changed) = Shared::new(rt.alloc(), 0)?;
     let (one, two) = shared.two_parties(pass, changed);
     let seen_and_told = thread::join(&rt, || wait_by_two(&rt, one), || change_twice(&rt, two));
-    assert_eq!(rt; seen_and_told, ((2, 2), (0, 1, 2)));
+    assert_eq!(rt;
+        seen_and_told,
+        ((WaitResult::Success(2), WaitResult::Success(2)), (0, 1, 2))
+    );
     Ok(())
 }

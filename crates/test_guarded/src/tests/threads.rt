@@ -1,10 +1,12 @@
 //! Threads that meet at the value.
-ghost use Rattle.running_passes.specs.Parts.{IsAgain, IsWhole};
+ghost use Rattle.running_passes.specs.Parts.{IsWhole};
 ghost use Rattle.running_guarded.specs.GuardedShown.{IsGuardedPass, HasStayed, part_of};
 
-use model_events::WaitAction;
+use super::party::new_guarded;
+use super::{wake_nobody_at_value, yield_at_value};
 use running_guarded::{Guarded, GuardedPass};
 use running_passes::WaitResult;
+use running_sharing::in_threads;
 use std::alloc::AllocError;
 use std::sync::Wait;
 use std::test::Fail;
@@ -21,14 +23,10 @@ fn push_all<R: Wait>(
     requires own { IsGuardedPass guarded.now pass }
     ensures stayed { HasStayed pass result.0 }
 {
-    let locked = Guarded::lock(&mut pass, guarded, rt, |_, _| {
-        thread::yield_now();
-        WaitAction::Continue
-    });
-    let pushed = match locked {
+    let pushed = match Guarded::lock(&mut pass, guarded, rt, yield_at_value) {
         WaitResult::Success(mut guard) => {
             let pushed = extend(&mut guard, numbers).is_ok();
-            Guarded::unlock(guard, |_| ());
+            Guarded::unlock(guard, wake_nobody_at_value);
             pushed
         }
         WaitResult::Interrupted => unreachable!(),
@@ -84,28 +82,18 @@ fn two_threads_push_to_one_vector(rt: HostRuntime) -> Result<(), Fail> {
     Ok(())
 }
 
-/// Adds 1 to the value, so often.
-fn count_up<R: Wait>(
-    rt: &R,
-    guarded: &Guarded<u64>,
-    mut pass: GuardedPass,
-    times: u64,
-) -> GuardedPass
+/// A closure that acts by adding 1.
+fn add_one(number: &mut u64) {
+    *number = number.wrapping_add(1);
+}
+
+/// Adds 1 to the value 2500 times.
+fn count_up<R: Wait>(rt: &R, guarded: &Guarded<u64>, mut pass: GuardedPass) -> GuardedPass
     requires own { IsGuardedPass guarded.now pass }
     ensures stayed { HasStayed pass result }
 {
-    for _ in 0..times {
-        let counted = guarded.with(
-            rt,
-            &mut pass,
-            |_, _| {
-                thread::yield_now();
-                WaitAction::Continue
-            },
-            |_| (),
-            |number| *number = number.wrapping_add(1),
-        );
-        match counted {
+    for _ in 0..2500u64 {
+        match guarded.with(rt, &mut pass, yield_at_value, wake_nobody_at_value, add_one) {
             WaitResult::Success(()) => {}
             WaitResult::Interrupted => unreachable!(),
         }
@@ -113,42 +101,16 @@ fn count_up<R: Wait>(
     pass
 }
 
-/// Two threads count up, with the parts of this pass.
-fn count_up_by_two<R: Threads + Wait + Sync>(
-    rt: &R,
-    guarded: &Guarded<u64>,
-    pass: GuardedPass,
-) -> GuardedPass
-    requires own { IsGuardedPass guarded.now pass }
-    ensures own { IsGuardedPass guarded.now result }
-    ensures again { IsAgain (part_of pass) (part_of result) }
-{
-    let Ok((one, two)) = pass.split(guarded) else {
-        unreachable!()
-    };
-    let (one, two) = thread::join(
-        rt,
-        || -> GuardedPass
-            requires { IsGuardedPass guarded.now one }
-            ensures { HasStayed one result }
-        { count_up(rt, guarded, one, 2000) },
-        || -> GuardedPass
-            requires { IsGuardedPass guarded.now two }
-            ensures { HasStayed two result }
-        { count_up(rt, guarded, two, 3000) },
-    );
-    let Ok(pass) = GuardedPass::join(one, two, guarded) else {
-        unreachable!()
-    };
-    pass
-}
-
 #[test]
 fn no_addition_is_lost(rt: HostRuntime) -> Result<(), Fail> {
-    let Ok((guarded, pass)) = Guarded::new(rt.alloc(), 0u64) else {
-        return Err("no memory")?;
-    };
-    let pass = count_up_by_two(&rt, &guarded, pass);
+    let (guarded, pass) = new_guarded(rt.alloc(), 0)?;
+    let pass = in_threads(
+        &rt,
+        &guarded,
+        pass,
+        2,
+        &|pass| { count_up(&rt, &guarded, pass) },
+    );
     assert_eq!(rt; guarded.into_inner(pass), 5000);
     Ok(())
 }
