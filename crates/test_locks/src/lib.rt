@@ -1,5 +1,4 @@
-//! The tests of the mutex, the condition variable and the reader-writer locks. They stand apart from those of the other running types,
-//! so that both are proved side by side.
+//! The tests of the mutex and the reader-writer locks.
 #![tactic(auto)]
 
 #[cfg(test)]

@@ -2,13 +2,10 @@
 //!
 //! A closure is two functions to the prover if it is called once, three if it has what is dropped, and else four; a named function that is
 //! handed in is three for the whole crate. So closures that capture nothing have a name, and those that do stand in one helper for many tests.
-mod condition_variable;
-mod condition_variable_parts;
 mod mutex;
 mod party;
 mod rwreader;
 mod rwwriter;
-mod sleepers;
 
 ghost use Rattle.std.specs.Prelude.{◌≡◌};
 ghost use Rattle.model_events.specs.declared.WaitAction.TheVariants.{Abort};

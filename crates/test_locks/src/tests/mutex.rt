@@ -16,7 +16,7 @@ use std::thread::Threads;
 use test_signal::Gathering;
 
 /// A new mutex, and two parts of its pass.
-pub(super) fn in_two_parts(alloc: Global) -> Result<(Mutex, MutexPass, MutexPass), AllocError>
+fn in_two_parts(alloc: Global) -> Result<(Mutex, MutexPass, MutexPass), AllocError>
     ensures own { IfOk result (λ made. IsMutexPass made.0 made.1 × IsMutexPass made.0 made.2) }
 {
     let (mutex, pass) = Mutex::new(alloc)?;

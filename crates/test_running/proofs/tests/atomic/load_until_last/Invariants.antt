@@ -1,5 +1,0 @@
-use Rattle.running_atomic.specs.AtomicShown.{HasStayed}
-use Rattle.test_running.proofs.tests.atomic.load_until_last.Given as goal
-
-abbrev pub invariant-loop : goal.invariant-loop
-invariant-loop g l = HasStayed l.fn.pass l.pass

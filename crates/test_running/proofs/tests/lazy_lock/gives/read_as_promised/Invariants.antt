@@ -1,4 +1,0 @@
-use Rattle.test_running.proofs.tests.lazy_lock.gives.read_as_promised.Given as goal
-
-abbrev pub ghosts-read_twice : goal.ghosts-read_twice
-ghosts-read_twice g a = record { may = λ _. Unit {0}; gives = λ f n. g.F.FnOnce.post f tt n }
