@@ -5,7 +5,6 @@ mod limits;
 mod long;
 mod player;
 mod streams;
-mod worked;
 
 use std::alloc::{AllocError, Global};
 use std::io::{Read, Write};
