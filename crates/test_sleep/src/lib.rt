@@ -1,4 +1,4 @@
-//! The tests of calls that sleep, on a word or at `Sleepers`. Storms of many that sleep are a program, `storm`.
+//! The tests of calls that sleep: at a condition variable, on a word or at `Sleepers`. Storms of many that sleep are a program, `test_storm`.
 #![tactic(auto)]
 
 #[cfg(test)]

@@ -1,5 +1,0 @@
-//! The tests of the running condition variable.
-#![tactic(auto)]
-
-#[cfg(test)]
-mod tests;
