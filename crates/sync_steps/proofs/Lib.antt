@@ -1,9 +1,7 @@
 pub mod Names
-pub mod Places
+pub mod WatchLaws
+pub mod Objects
 pub mod Turns
 pub mod Stands
-pub mod Headlines
-pub mod CallLaws
-pub mod WatchLaws
 pub mod Plays
 pub mod StrideLaws

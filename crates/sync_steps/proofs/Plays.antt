@@ -1,6 +1,20 @@
 -- Playing one more input.
-use Rattle.sync_steps.proofs.Names.{◌≡◌, ℕ, ◌+◌, ◌<◌, refl, sym, ◌∙◌, ap, subst, List, [], ◌∷◌, ◌++◌, length, take, get_or, Some, slice_get, slice_get-get_or, take_more, arith, eqb-true, eqb-false, nat_tests, Event, Input, Object, StepFault, Arithmetic, after, fault_of, IsNext, IsRun, Configuration, StandsAt, Steps, Plays, PlaysUpTo}
-use Rattle.sync_steps.proofs.Headlines.{headline, prefixes}
+use Rattle.sync_steps.proofs.Names.{◌≡◌, ℕ, ◌+◌, ◌<◌, refl, sym, ◌∙◌, ap, subst, List, [], ◌∷◌, ◌++◌, length, take, get_or, Some, slice_get, slice_get-get_or, take_more, arith, eqb-true, eqb-false, nat_tests, Event, Input, Object, StepFault, Arithmetic, after, fault_of, IsNext, IsRun, Configuration, StandsAt, Steps, Plays, PlaysUpTo, AtEveryPrefix, IsPast}
+use Rattle.sync_steps.specs.Objects.{Headline}
+use Rattle.sync_steps.proofs.Objects.{headline}
+
+-- at every prefix of a run that goes on from a past
+prefixes :
+    {T : Type 0} (z : Arithmetic T) (o : Object T) (parties : ℕ) (past : List (Event T)) (schedule : List (ℕ × Input T)) (events : List (Event T)) →
+    IsPast z o parties past → IsRun z o parties past schedule events → AtEveryPrefix (Headline z o) past events
+prefixes z o parties past [] [] run goes = headline z o parties past run
+prefixes z o parties past (turn ∷ schedule) (e ∷ events) run goes =
+    (headline z o parties past run, prefixes z o parties (e ∷ past) schedule events (next_past goes.0) goes.1)
+  where
+    next_past : IsNext z o parties past turn.0 turn.1 e → IsPast z o parties (e ∷ past)
+    next_past next = (run.0, ((turn.1, subst (λ p. IsNext z o parties past p turn.1 e) (sym next.party_is) next), run.1))
+prefixes z o parties past [] (e ∷ events) run goes = absurd goes
+prefixes z o parties past (turn ∷ schedule) [] run goes = absurd goes
 
 run_more :
     {T : Type 0} (z : Arithmetic T) (o : Object T) (parties : ℕ) (past : List (Event T)) (schedule : List (ℕ × Input T)) (events : List (Event T)) (input : ℕ × Input T) (e : Event T) →

@@ -3,8 +3,7 @@ use Rattle.sync_steps.proofs.Names.{◌≡◌, ◌≢◌, ℕ, zero, suc, ◌<�
 use std.Path.{fun_ext}
 use Rattle.model_events.specs.Moves as moves
 use Rattle.model_events.specs.Runs as runs
-use Rattle.sync_steps.proofs.Headlines.{headline, absent_word}
-use Rattle.sync_steps.proofs.Places.{opening_is}
+use Rattle.sync_steps.proofs.Objects.{opening_is, headline, absent_word}
 use Rattle.sync_steps.proofs.Turns.{Turns, TurnsOr, turns_at}
 
 pub slice_get-set_same : {A : Type 0} (xs : List A) (i : ℕ) (v : A) → i < length xs → slice_get (slice_set xs i v) i ≡ Some v

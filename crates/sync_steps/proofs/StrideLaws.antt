@@ -1,7 +1,7 @@
 -- A spin is the run of its tries: each does the same, and leads to the next.
 use Rattle.sync_steps.proofs.Names.{◌≡◌, ℕ, zero, suc, ◌+◌, ◌*◌, ◌-◌, ◌^◌, ◌<◌, ◌≤◌, min, refl, sym, ◌∙◌, ap, subst, List, [], ◌∷◌, length, Bool, true, cond, Option, Some, None, Ok, slice_get, slice_set, arith, length-set, eqb-true, eqb-false, nat_tests, replicate, Act, Event, Input, Object, Then, Word, Intent, Arithmetic, word_after, is_failure, failures_by, event, carried_out, value_told, word_at, Doing, Party, Place, Configuration, Steps, Plays, HasTurned, intent_at, turn_at, Strides, is_quiet, spun_party, HasSpun}
-use Rattle.sync_steps.specs.Machine.Spins.{spins_at, spun_at}
-use Rattle.sync_steps.proofs.Headlines.{headline}
+use Rattle.sync_steps.specs.Machine.Places.{spins_at, spun_at}
+use Rattle.sync_steps.proofs.Objects.{headline}
 use Rattle.sync_steps.proofs.Stands.{slice_get-set_same, turns_step}
 use Rattle.sync_steps.proofs.Plays.{plays_none}
 

@@ -1,6 +1,6 @@
 -- The turn of a party that is where a run's call is, is the move that the definitions give, and leaves it where they do.
 use Rattle.sync_steps.proofs.Names.{◌≡◌, refl, sym, subst, ℕ, Bool, true, false, ◌&&◌, cond, is_some, is_none, Option, Some, None, Result, Ok, Err, ◌⊎◌, carried_is_step, arith, eqb-true, eqb-false, nat_tests, WaitAction, Call, Input, Object, StepFault, Then, Word, HoldKind, Arithmetic, carried_out, value_told, within, PendingCall, call_after, hold_after, latest_outcome, event, stage_of, move_of, fault_at, go_fault, answer_fault, choose_fault, is_locking, HasForm, Doing, Party, Place, Turn, place_of, table_of, place_in, closure_of, DoesCall, IsParty, map_place, begins_at, needs_hold_at, turn_after, begun, begin_at, begin_turn, go_at, is_at_wait, is_at_choice, answer_at, choose_at, turn_at}
-use Rattle.sync_steps.proofs.Places.{begins_is, intent_is, after_is, answered_is, chosen_is, needs_hold_is, new_hold_is}
+use Rattle.sync_steps.proofs.Objects.{begins_is, intent_is, after_is, answered_is, chosen_is, needs_hold_is, new_hold_is}
 
 -- the turn is what the input gives: the move of the definitions, which leaves the party where they do
 pub record Turns {T : Type 0} (z : Arithmetic T) (o : Object T) (pending : Option (PendingCall T)) (hold : Option HoldKind) (memory : Word → ℕ) (input : Input T) (turn : Turn T) : Type 0 where

@@ -1,18 +1,17 @@
 -- What a wait closure is told is what its call saw last of the word that it watches.
-use Rattle.sync_steps.specs.Names.{MatchOption, Act, Call, Event, Object, Then, Word, HoldKind, Patience, After, Arithmetic, stage_of, seen_by, PendingCall, call_of, hold_of, word_in, event, carried_out, value_told, sight_of, is_sight, last_of, Table, RwWriterPlace, rw_writer_table, rw_writer_intent, rw_writer_after, last_look, CondvarPlace, condvar_table, condvar_intent, condvar_after, refused_by, SpinPlace, spin_after, OncePlace, once_after, LazyPlace, lazy_after, AtomicPlace, atomic_after}
-use Rattle.sync_steps.proofs.Names.{◌≡◌, refl, sym, ◌∙◌, ap, subst, ℕ, true, cond, is_some, List, [], ◌∷◌, Option, Some, None, ◌⊎◌, inl, inr, arith, nat_tests, eqb-true, eqb-false, Place, table_of, IsPast, place_in, watched_word, SawLast, TellsWatched}
+use Rattle.sync_steps.specs.Names.{MatchOption, Act, Call, Event, Object, Then, Word, HoldKind, Patience, After, Arithmetic, stage_of, seen_by, PendingCall, call_of, hold_of, word_in, event, carried_out, value_told, sight_of, is_sight, last_of, Table, RwWriterPlace, rw_writer_table, rw_writer_intent, rw_writer_after, last_look, CondvarPlace, condvar_table, condvar_intent, condvar_after, refused_by}
+use Rattle.sync_steps.proofs.Names.{◌≡◌, refl, sym, ◌∙◌, ap, subst, ℕ, true, cond, is_some, List, ◌∷◌, Option, Some, None, ◌⊎◌, inl, inr, arith, nat_tests, eqb-true, eqb-false, Place, table_of, IsPast, place_in, watched_word, SawLast}
 use Rattle.model_events.specs.Asks.{Refusing, TellsRefusal, sight_at}
 use Rattle.model_events.specs.Runs as runs
 use Rattle.model_events.proofs.Parties.{IsKept, at_place}
-use Rattle.sync_steps.proofs.Headlines.{headline}
 
 -- what is to be shown of the step that left the call at its closure
-abbrev WhereAStepWaits : {T P : Type 0} → Table T P → (P → Word) → List (Event T) → Event T → Type 0
+abbrev pub WhereAStepWaits : {T P : Type 0} → Table T P → (P → Word) → List (Event T) → Event T → Type 0
 WhereAStepWaits {T} {P} t watched past e =
     (c : PendingCall T) (place next : P) (told : ℕ) → call_of e.party past ≡ Some c → stage_of t c ≡ Some place → e.act ≡ carried_out (t.intent place (hold_of t e.party past)) (word_in t past) → e.then ≡ Then.Waits told →
     t.after place (value_told (carried_out (t.intent place (hold_of t e.party past)) (word_in t past))) ≡ After.Waits next told → SawLast (watched next) (e ∷ c.own) told
 
-watches :
+pub watches :
     {T P : Type 0} (z : Arithmetic T) (t : Table T P) (parties : ℕ) (watched : P → Word) (past : List (Event T)) (e : Event T) → runs.IsPast z t parties (e ∷ past) → WhereAStepWaits t watched past e →
     (told : ℕ) (c : PendingCall T) (place : P) → e.then ≡ Then.Waits told → call_of e.party (e ∷ past) ≡ Some c → stage_of t c ≡ Some place → SawLast (watched place) c.own told
 watches z t parties watched past e h1 h2 told c place h3 h4 h5 = grind (arith, nat_tests, eqb-true, eqb-false)
@@ -29,25 +28,13 @@ saw_now word e own told is = subst (λ (s : Option ℕ). seen_by word (cond (is_
 
 -- as of most objects that is what a step saw of the lock's word;
 
-state_rows : {T P : Type 0} (t : Table T P) (past : List (Event T)) (e : Event T) → TellsRefusal (sight_at Word.State) (e ∷ past) → WhereAStepWaits t (λ place. Word.State) past e
+pub state_rows : {T P : Type 0} (t : Table T P) (past : List (Event T)) (e : Event T) → TellsRefusal (sight_at Word.State) (e ∷ past) → WhereAStepWaits t (λ place. Word.State) past e
 state_rows t past e tells c place next told was at acted waits leads = saw_now Word.State e c.own told (asked (sight_at Word.State) past e c told tells was waits)
 
--- and a spin lock, a once, a lazy value and an atomic ask no closure.
+-- and some ask no closure.
 
-none_rows : {T P : Type 0} (t : Table T P) (watched : P → Word) (past : List (Event T)) (e : Event T) → ((place next : P) (x : Option ℕ) (told : ℕ) → t.after place x ≡ After.Waits next told → ⊥) → WhereAStepWaits t watched past e
+pub none_rows : {T P : Type 0} (t : Table T P) (watched : P → Word) (past : List (Event T)) (e : Event T) → ((place next : P) (x : Option ℕ) (told : ℕ) → t.after place x ≡ After.Waits next told → ⊥) → WhereAStepWaits t watched past e
 none_rows t watched past e asks_none c place next told was at acted waits leads = absurd (asks_none place next _ told leads)
-
-spin_asks_none : {T : Type 0} (place next : SpinPlace) (x : Option ℕ) (told : ℕ) → spin_after {T = T} place x ≡ After.Waits next told → ⊥
-spin_asks_none place next x told is = grind arith
-
-once_asks_none : {T : Type 0} (place next : OncePlace) (x : Option ℕ) (told : ℕ) → once_after {T = T} place x ≡ After.Waits next told → ⊥
-once_asks_none place next x told is = grind arith
-
-lazy_asks_none : {T : Type 0} (v : T) (place next : LazyPlace) (x : Option ℕ) (told : ℕ) → lazy_after v place x ≡ After.Waits next told → ⊥
-lazy_asks_none v place next x told is = grind arith
-
-atomic_asks_none : {T : Type 0} (z : Arithmetic T) (place next : AtomicPlace T) (x : Option ℕ) (told : ℕ) → atomic_after z place x ≡ After.Waits next told → ⊥
-atomic_asks_none z place next x told is = grind arith
 
 -- A writer's last look tells no count: that was loaded before it.
 
@@ -106,7 +93,7 @@ watches_permits : {T : Type 0} (place next : CondvarPlace) (memory : Word → �
     sight_of {T = T} Word.Value (carried_out (condvar_intent place) memory) ≡ Some seen → watched_word {T = T} Object.Condvar (Place.Condvar next) ≡ Word.Value
 watches_permits place next memory told seen is sees = grind (arith, nat_tests)
 
-writer_rows : {T : Type 0} (z : Arithmetic T) (parties : ℕ) (past : List (Event T)) (e : Event T) → IsPast z Object.WriterLock parties (e ∷ past) → WhereAStepWaits {T = T} (table_of z Object.WriterLock) (λ place. watched_word {T = T} Object.WriterLock (place_in {T = T} Object.WriterLock place)) past e
+pub writer_rows : {T : Type 0} (z : Arithmetic T) (parties : ℕ) (past : List (Event T)) (e : Event T) → IsPast z Object.WriterLock parties (e ∷ past) → WhereAStepWaits {T = T} (table_of z Object.WriterLock) (λ place. watched_word {T = T} Object.WriterLock (place_in {T = T} Object.WriterLock place)) past e
 writer_rows {T} z parties past e run c place next told was at acted waits leads = by_count (count_at place) refl
   where
     hold : Option HoldKind
@@ -126,8 +113,8 @@ writer_rows {T} z parties past e run c place next told was at acted waits leads 
         let later : SawLast Word.Counter (e ∷ c.own) count = subst (λ (act : Act T). SawLast Word.Counter (event e.party act e.then ∷ c.own) count) (sym (acted ∙ writer_looks place hold memory count some)) saw in
         subst Saw (sym (writer_watches place next hold memory told count leads some)) (subst (λ n. SawLast Word.Counter (e ∷ c.own) n) (writer_counted place next hold memory told count leads some) later)
 
-condvar_rows : {T : Type 0} (z : Arithmetic T) (parties : ℕ) (past : List (Event T)) (e : Event T) → IsPast z Object.Condvar parties (e ∷ past) → WhereAStepWaits {T = T} (table_of z Object.Condvar) (λ place. watched_word {T = T} Object.Condvar (place_in {T = T} Object.Condvar place)) past e
-condvar_rows {T} z parties past e run c place next told was at acted waits leads = by_sight (refused_by_sight c.call c.own e.act told (asked refused_by past e c told (headline z Object.Condvar parties (e ∷ past) run).law.waits.tells was waits))
+pub condvar_rows : {T : Type 0} (z : Arithmetic T) (past : List (Event T)) (e : Event T) → TellsRefusal refused_by (e ∷ past) → WhereAStepWaits {T = T} (table_of z Object.Condvar) (λ place. watched_word {T = T} Object.Condvar (place_in {T = T} Object.Condvar place)) past e
+condvar_rows {T} z past e tells c place next told was at acted waits leads = by_sight (refused_by_sight c.call c.own e.act told (asked refused_by past e c told tells was waits))
   where
     memory : Word → ℕ
     memory = word_in {T = T} condvar_table past
@@ -135,19 +122,3 @@ condvar_rows {T} z parties past e run c place next told was at acted waits leads
     by_sight : (sight_of Word.State e.act ≡ Some told) ⊎ (sight_of Word.Value e.act ≡ Some told) → SawLast (watched_word {T = T} Object.Condvar (Place.Condvar next)) (e ∷ c.own) told
     by_sight (inl saw) = subst (λ word. SawLast word (e ∷ c.own) told) (sym (watches_mutex {T = T} place next memory told told leads (ap (sight_of Word.State) (sym acted) ∙ saw))) (saw_now Word.State e c.own told saw)
     by_sight (inr saw) = subst (λ word. SawLast word (e ∷ c.own) told) (sym (watches_permits {T = T} place next memory told told leads (ap (sight_of Word.Value) (sym acted) ∙ saw))) (saw_now Word.Value e c.own told saw)
-
-rows : {T : Type 0} (z : Arithmetic T) (o : Object T) (parties : ℕ) (past : List (Event T)) (e : Event T) → IsPast z o parties (e ∷ past) → WhereAStepWaits (table_of z o) (λ place. watched_word o (place_in o place)) past e
-rows z Object.Mutex parties past e run = state_rows (table_of z Object.Mutex) past e (headline z Object.Mutex parties (e ∷ past) run).law.waits.tells
-rows {T} z Object.Spin parties past e run = none_rows (table_of z Object.Spin) (λ place. Word.State) past e (spin_asks_none {T = T})
-rows z (Object.Semaphore initial) parties past e run = state_rows (table_of z (Object.Semaphore initial)) past e (headline z (Object.Semaphore initial) parties (e ∷ past) run).law.waits.tells
-rows z (Object.Barrier n) parties past e run = state_rows (table_of z (Object.Barrier n)) past e (headline z (Object.Barrier n) parties (e ∷ past) run).law.waits.tells
-rows z Object.ReaderLock parties past e run = state_rows (table_of z Object.ReaderLock) past e (headline z Object.ReaderLock parties (e ∷ past) run).law.waits.tells
-rows z Object.WriterLock parties past e run = writer_rows z parties past e run
-rows z Object.Condvar parties past e run = condvar_rows z parties past e run
-rows {T} z Object.Once parties past e run = none_rows (table_of z Object.Once) (λ place. Word.State) past e (once_asks_none {T = T})
-rows {T} z (Object.Lazy v) parties past e run = none_rows (table_of z (Object.Lazy v)) (λ place. Word.State) past e (lazy_asks_none v)
-rows {T} z (Object.Atomic v) parties past e run = none_rows (table_of z (Object.Atomic v)) (λ place. Word.State) past e (atomic_asks_none z)
-
-pub tells_watched : {T : Type 0} (z : Arithmetic T) (o : Object T) (parties : ℕ) (past : List (Event T)) → IsPast z o parties past → TellsWatched z o past
-tells_watched z o parties [] run = tt
-tells_watched z o parties (e ∷ past) run = watches z (table_of z o) parties (λ place. watched_word o (place_in o place)) past e run.1 (rows z o parties past e run)

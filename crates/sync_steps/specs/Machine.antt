@@ -3,14 +3,12 @@ use Rattle.sync_steps.specs.Names.{◌≡◌, ℕ, ◌-◌, ◌^◌, ◌<◌, �
 use Rattle.model_events.specs.declared.words.Words.{Words}
 use Rattle.sync_steps.specs.declared.steps.fault.PlayFault.{PlayFault}
 use Rattle.sync_steps.specs.declared.steps.place.Party.{Party}
-use Rattle.sync_steps.specs.Objects.{table_of, has_word}
+use Rattle.sync_steps.specs.Objects.{table_of, Headline, has_word}
 use Rattle.sync_steps.specs.Runs.{word_in, fault_of, IsNext, IsPast, IsRun}
-use Rattle.sync_steps.specs.Law.{Headline}
 use Rattle.sync_steps.specs.Machine.Places.{IsParty}
 pub mod Places
 pub mod Turns
 pub mod Applies
-pub mod Spins
 pub mod Strides
 
 -- an object and its parties at a moment

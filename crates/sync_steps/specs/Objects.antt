@@ -1,6 +1,16 @@
--- What each object is: its places and its table of steps, what it may be opened with, and the words and the calls that it has.
-use Rattle.sync_steps.specs.Names.{◌<◌, ◌^◌, Bool, true, false, Call, Object, Word, Arithmetic, IsValue, IsClosed, Table, MutexPlace, mutex_table, SpinPlace, spin_table, SemaphorePlace, semaphore_table, BarrierPlace, barrier_table, RwReaderPlace, rw_reader_table, RwWriterPlace, rw_writer_table, CondvarPlace, condvar_table, OncePlace, once_table, LazyPlace, lazy_table, AtomicPlace, atomic_table}
+-- What each object is: its places and its table of steps, its law, what it may be opened with, and the words and the calls that it has.
+use Rattle.sync_steps.specs.Names.{ℕ, List, ◌<◌, ◌^◌, Bool, true, false, Call, Event, Object, Word, Arithmetic, IsValue, IsClosed, Table, MutexPlace, mutex_table, SpinPlace, spin_table, SemaphorePlace, semaphore_table, BarrierPlace, barrier_table, RwReaderPlace, rw_reader_table, RwWriterPlace, rw_writer_table, CondvarPlace, condvar_table, OncePlace, once_table, LazyPlace, lazy_table, AtomicPlace, atomic_table, CondvarCause, CondvarLaw}
+use Rattle.model_events.specs.Laws.{Keeps}
 use Rattle.model_events.specs.declared.event.Wake.{Wake}
+use Rattle.model_mutex.specs.Law.{MutexCause, MutexLaw}
+use Rattle.model_spin.specs.Law.{SpinCause, SpinLaw}
+use Rattle.model_semaphore.specs.Law.{SemaphoreCause, SemaphoreLaw}
+use Rattle.model_barrier.specs.Law.{BarrierCause, BarrierLaw}
+use Rattle.model_rw_reader.specs.Law.{RwReaderCause, RwReaderLaw}
+use Rattle.model_rw_writer.specs.Law.{RwWriterCause, RwWriterLaw}
+use Rattle.model_once.specs.Law.{OnceCause, OnceLaw}
+use Rattle.model_lazy.specs.Law.{LazyCause, LazyLaw}
+use Rattle.model_atomic.specs.Law.{AtomicCause, AtomicLaw}
 
 abbrev pub place_of : {T : Type 0} → Object T → Type 0
 place_of Object.Mutex = MutexPlace
@@ -25,6 +35,41 @@ table_of z Object.Condvar = condvar_table
 table_of z Object.Once = once_table
 table_of z (Object.Lazy v) = lazy_table v
 table_of z (Object.Atomic v) = atomic_table z v
+
+-- What holds at every prefix of every run.
+
+-- why a call of the object was refused, by the events up to its answer
+abbrev pub CauseOf : {T : Type 0} → Object T → Call T → ℕ → List (Event T) → Type 0
+CauseOf Object.Mutex = MutexCause
+CauseOf Object.Spin = SpinCause
+CauseOf (Object.Semaphore initial) = SemaphoreCause initial
+CauseOf (Object.Barrier n) = BarrierCause n
+CauseOf Object.ReaderLock = RwReaderCause
+CauseOf Object.WriterLock = RwWriterCause
+CauseOf Object.Condvar = CondvarCause
+CauseOf Object.Once = OnceCause
+CauseOf (Object.Lazy v) = LazyCause
+CauseOf (Object.Atomic v) = AtomicCause
+
+-- What each object keeps beside: no more permits are taken than given, a barrier's round is full before it is passed, a once's closure ends before any call tells
+-- of it, every answer of a lazy value is its value, an atomic answers as one register, ..
+abbrev pub LawOf : {T : Type 0} → Arithmetic T → Object T → List (Event T) → Type 0
+LawOf z Object.Mutex = MutexLaw
+LawOf z Object.Spin = SpinLaw
+LawOf z (Object.Semaphore initial) = SemaphoreLaw initial
+LawOf z (Object.Barrier n) = BarrierLaw n
+LawOf z Object.ReaderLock = RwReaderLaw
+LawOf z Object.WriterLock = RwWriterLaw
+LawOf z Object.Condvar = CondvarLaw
+LawOf z Object.Once = OnceLaw
+LawOf z (Object.Lazy v) = LazyLaw v
+LawOf z (Object.Atomic v) = AtomicLaw z v
+
+-- *told*, *exclusive*, *cause*, and the object's law
+abbrev pub Headline : {T : Type 0} → Arithmetic T → Object T → List (Event T) → Type 0
+Headline z o past = Keeps (table_of z o) (CauseOf o) (LawOf z o) past
+
+-- What it may be opened with, and its words and calls.
 
 -- what an object is opened with is a value of its type; an atomic's type computes with its values, as every `AtomicInteger` does
 abbrev pub IsObject : {T : Type 0} → Arithmetic T → Object T → Type 0

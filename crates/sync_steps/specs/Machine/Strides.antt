@@ -4,8 +4,7 @@ use Rattle.sync_steps.specs.declared.steps.machine.stride.Stride.{Stride}
 use Rattle.sync_steps.specs.declared.steps.place.Doing.{Doing}
 use Rattle.sync_steps.specs.declared.steps.place.Party.{Party}
 use Rattle.sync_steps.specs.Machine.{Configuration, Plays}
-use Rattle.sync_steps.specs.Machine.Places.{intent_at}
-use Rattle.sync_steps.specs.Machine.Spins.{spins_at, spun_at}
+use Rattle.sync_steps.specs.Machine.Places.{intent_at, spins_at, spun_at}
 
 -- so many steps of a party
 abbrev pub steps_of : {T : Type 0} → ℕ → ℕ → List (ℕ × Input T)

@@ -2,16 +2,12 @@ ghost use Rattle.std.specs.Prelude.{◌≡◌, ◌<◌, true, [], length, IfOk, 
 ghost use Rattle.model_events.specs.declared.event.Input.TheVariants as inputs;
 ghost use Rattle.model_events.specs.declared.event.Word.TheVariants as words;
 ghost use Rattle.model_events.specs.Past.{event};
-ghost use Rattle.sync_steps.specs.Objects.{IsObject};
 ghost use Rattle.sync_steps.specs.Machine.{StandsAt, TellsObject, Tells, IsNoneWithout, TellsFailed, TellsHold, TellsParty, Steps, RefusesStep, KeepsHeadline};
 ghost use Rattle.sync_steps.specs.Machine.Applies.{HasWritten, HasTurned, HasRefused};
-ghost use Rattle.sync_steps.specs.Machine.Places.{opening_at};
-ghost use Rattle.model_events.specs.declared.event.Word.{Word as AnyWord};
-ghost use Rattle.model_events.specs.WordsAt.{word_at};
 
 mod stride;
 
-use super::place::Party;
+use super::place::{Party, opened};
 use super::turn;
 use model_events::WaitAction;
 use model_events::atomic::internal::AtomicInteger;
@@ -226,40 +222,5 @@ impl<T: AtomicInteger, A: Allocator> Machine<T, A> {
         self.words.apply(&act);
         self.failed = failed_after(self.failed, &act);
         Event { party, act, then }
-    }
-}
-
-/// The words of an object before the first event.
-fn opened<T: AtomicInteger>(object: &Object<T>) -> Words
-    ensures words { (word : AnyWord) → word_at result word ≡ opening_at T.arithmetic object.now word }
-    ensures values { IsObject T.arithmetic object.now }
-{
-    let mut state = 0;
-    let mut low_high = (0, 0);
-    match object {
-        Object::Semaphore(initial) => state = *initial,
-        // Read, so that it is known to be below 2^32.
-        Object::Barrier(n) => {
-            let _n = *n;
-        }
-        Object::Lazy(value) => turn::read_value(*value),
-        Object::Atomic(value) => {
-            model_atomic::closed::<T>();
-            low_high = (*value).to_words();
-        }
-        Object::Mutex
-        | Object::Spin
-        | Object::ReaderLock
-        | Object::WriterLock
-        | Object::Condvar
-        | Object::Once => {}
-    }
-    Words {
-        state,
-        counter: 0,
-        waiters: 0,
-        value: 0,
-        low: low_high.0,
-        high: low_high.1,
     }
 }

@@ -1,9 +1,12 @@
 //! Where the parties of a machine are, and which primitive's row that is.
 ghost use Rattle.std.specs.Prelude.{◌≡◌, true, is_some, ⊤};
 ghost use Rattle.model_events.specs.declared.event.Object.TheVariants as objects;
-ghost use Rattle.sync_steps.specs.Objects.{has_call as listed_call, is_rw_call as rw_call, is_register_call as register_call, wants_hold, has_word, woken_word};
-ghost use Rattle.sync_steps.specs.Machine.Places.{begins_at, intent_at, after_at, answered_at, chosen_at, grant_at, needs_hold_at, watched_word};
+ghost use Rattle.model_events.specs.declared.event.Word.{Word as AnyWord};
+ghost use Rattle.model_events.specs.WordsAt.{word_at};
+ghost use Rattle.sync_steps.specs.Objects.{IsObject, has_call as listed_call, is_rw_call as rw_call, is_register_call as register_call, wants_hold, has_word, woken_word};
+ghost use Rattle.sync_steps.specs.Machine.Places.{opening_at, begins_at, intent_at, after_at, answered_at, chosen_at, grant_at, needs_hold_at, watched_word};
 
+use super::turn::read_value;
 use model_atomic::AtomicPlace;
 use model_barrier::BarrierPlace;
 use model_condvar::CondvarPlace;
@@ -12,6 +15,7 @@ use model_events::atomic::internal::AtomicInteger;
 use model_events::event::{Call, Object, Wake, Word};
 use model_events::hold::HoldKind;
 use model_events::row::{After, Intent};
+use model_events::words::Words;
 use model_lazy::LazyPlace;
 use model_mutex::MutexPlace;
 use model_once::OncePlace;
@@ -184,6 +188,41 @@ impl<T: AtomicInteger> Place<T> {
             Place::Atomic(place) => Place::Atomic(place.chosen(choice)),
             other => *other,
         }
+    }
+}
+
+/// The words of an object before the first event.
+pub(crate) fn opened<T: AtomicInteger>(object: &Object<T>) -> Words
+    ensures words { (word : AnyWord) → word_at result word ≡ opening_at T.arithmetic object.now word }
+    ensures values { IsObject T.arithmetic object.now }
+{
+    let mut state = 0;
+    let mut low_high = (0, 0);
+    match object {
+        Object::Semaphore(initial) => state = *initial,
+        // Read, so that it is known to be below 2^32.
+        Object::Barrier(n) => {
+            let _n = *n;
+        }
+        Object::Lazy(value) => read_value(*value),
+        Object::Atomic(value) => {
+            model_atomic::closed::<T>();
+            low_high = (*value).to_words();
+        }
+        Object::Mutex
+        | Object::Spin
+        | Object::ReaderLock
+        | Object::WriterLock
+        | Object::Condvar
+        | Object::Once => {}
+    }
+    Words {
+        state,
+        counter: 0,
+        waiters: 0,
+        value: 0,
+        low: low_high.0,
+        high: low_high.1,
     }
 }
 
