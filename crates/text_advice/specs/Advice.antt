@@ -7,10 +7,11 @@ use Rattle.text_lines.specs.declared.fault.FaultyLine.{FaultyLine}
 use Rattle.text_lines.specs.declared.fault.LineFault.{LineFault}
 use Rattle.text_lines.specs.declared.fault.LineFault.TheVariants as faults
 use Rattle.model_events.specs.declared.event.Call.{Call}
-use Rattle.text_lines.specs.Call.{name_of, calls_of, named}
-use Rattle.text_lines.specs.Command.{find, verbs}
+use Rattle.text_lines.specs.Call.{name_of, named}
+use Rattle.text_lines.specs.Command.{verbs}
 use Rattle.text_lines.specs.Header.{header_of}
-use Rattle.text_lines.specs.Lexer.{words_of, number_within}
+use Rattle.text_lines.specs.Lexer.{words_of, number_within, find}
+use Rattle.text_lines.specs.Objects.{calls_of}
 use Rattle.text_lines.specs.ValueTypes.{meaning_of, object_of_name, type_named}
 use Rattle.text_advice.specs.Objects.{text_begins, has_no_call, first_line, first_words, first_numbers, numbers_after, numbers_within, verbs_of, answers}
 
@@ -51,9 +52,6 @@ byte_shown byte = if is_plain byte then byte ∷ [] else 92 ∷ 120 ∷ digit_of
 abbrev pub repeated : List ℕ → List ℕ
 repeated bytes = flat_map byte_shown (take 200 bytes) ++ (if nat_lt 200 (length bytes) then codes ".." else [])
 
-abbrev pub has_start_wait : Object Unit → Bool
-has_start_wait o = is_some (named (codes "start_wait") (calls_of o))
-
 -- The sentence.
 
 -- begins as a comment does in many languages: with #, /, ; or %
@@ -76,7 +74,7 @@ abbrev pub of_unknown : Object Unit → List ℕ → List ℕ
 of_unknown o name = has_no_call o ++ (repeated name ++ may_ask (codes "`: ") o)
 
 abbrev pub of_verb : Object Unit → List ℕ → List ℕ
-of_verb o name = if (is_some (find {T = Unit} name verbs) || is_some (named name (calls_of o))) then numbers_after o else of_unknown o name
+of_verb o name = if (is_some (find name (verbs {T = Unit})) || is_some (named name (calls_of o))) then numbers_after o else of_unknown o name
 
 abbrev pub after_party : Object Unit → List (List ℕ) → List ℕ
 after_party o [] = has_two o
@@ -109,6 +107,9 @@ abbrev pub of_idle : Object Unit → List (List ℕ) → List ℕ
 of_idle o words =
     if counts_steps words then codes "the call ended before these steps, or none was under way: `run` goes to its end"
     else codes "the party has no call under way, and begins one by its name: " ++ listed (calls_of o)
+
+abbrev pub has_start_wait : Object Unit → Bool
+has_start_wait o = is_some (named (codes "start_wait") (calls_of o))
 
 abbrev pub means_to_begin : Object Unit → List (List ℕ) → Bool
 means_to_begin o (party ∷ name ∷ words) = (bytes_eq name (codes "wait")) && has_start_wait o

@@ -1,6 +1,6 @@
 //! The sentence that says what would be right in the place of a line with a fault.
 ghost use Rattle.std.specs.Prelude.{◌≡◌, ◌++◌, OnOk};
-ghost use Rattle.text_lines.specs.Call.{calls_of as listed_calls};
+ghost use Rattle.text_lines.specs.Objects.{calls_of as listed_calls};
 ghost use Rattle.text_lines.specs.Lexer.{words_of};
 ghost use Rattle.text_advice.specs.Advice as meaning;
 

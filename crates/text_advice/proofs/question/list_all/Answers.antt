@@ -1,5 +1,5 @@
 use Rattle.std.proofs.Common.{◌≡◌, ◌++◌, ◌∙◌, OnOk, ℕ, List, ap, subst, append_assoc, codes}
-use Rattle.text_lines.specs.Call.{calls_of}
+use Rattle.text_lines.specs.Objects.{calls_of}
 use Rattle.text_advice.specs.Advice.{listed}
 use Rattle.text_advice.specs.Objects.{closures_of}
 use Rattle.text_advice.specs.Question as meaning
