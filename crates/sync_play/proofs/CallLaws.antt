@@ -45,7 +45,7 @@ found o call h1 = grind (arith, nat_tests, eqb-true, eqb-false)
 pub calls_are_named : {T : Type 0} → CallsAreNamed T
 calls_are_named o call has = ap is_some (found o call has)
 
-no_verb : {T : Type 0} (call : Call T) → find {T = T} (name_of call) verbs ≡ None
+no_verb : {T : Type 0} (call : Call T) → find (name_of call) (verbs {T = T}) ≡ None
 no_verb call = grind arith
 
 abbrev pair : {A : Type 0} → A → A → Result (A × A) LineFault

@@ -54,16 +54,10 @@ named name number = name ++ (codes " " ++ number)
 
 -- what an object's words hold in this memory after the first, by their names; of an atomic the value of its two words
 abbrev pub further : {T : Type 0} → Arithmetic T → Numerals T → Object T → (Word → ℕ) → List (List ℕ × List ℕ)
-further z numerals Object.Mutex memory = []
-further z numerals Object.Spin memory = []
-further z numerals (Object.Semaphore initial) memory = []
-further z numerals (Object.Barrier n) memory = []
-further z numerals Object.ReaderLock memory = []
 further z numerals Object.WriterLock memory = (codes "counter", decimal (memory Word.Counter)) ∷ []
 further z numerals Object.Condvar memory = (codes "waiters", decimal (memory Word.Waiters)) ∷ (codes "value", decimal (memory Word.Value)) ∷ []
-further z numerals Object.Once memory = []
-further z numerals (Object.Lazy v) memory = []
 further z numerals (Object.Atomic v) memory = (codes "value", numerals.decimal_of (z.of_words (memory Word.Low) (memory Word.High))) ∷ []
+further z numerals other memory = []
 
 -- each after a space
 abbrev pub further_words : {T : Type 0} → Arithmetic T → Numerals T → Object T → (Word → ℕ) → List ℕ

@@ -142,18 +142,12 @@ pub fn print_further_words<T: TextInteger, A: Allocator, B: Allocator>(
             let value = machine.value();
             write!(out, " waiters {waiters} value {value}")
         }
-        Object::Mutex
-        | Object::Spin
-        | Object::Semaphore(_)
-        | Object::Barrier(_)
-        | Object::ReaderLock
-        | Object::Once
-        | Object::Lazy(_) => Ok(()),
         Object::Atomic(_) => {
             let (low, high) = machine.low_high();
             write!(out, " value ")?;
             T::from_words(low, high).print(out)
         }
+        _ => Ok(()),
     }
 }
 

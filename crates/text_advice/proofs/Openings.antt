@@ -1,52 +1,38 @@
 -- The line that is advised opens the object of its name.
-use Rattle.std.proofs.Common.{◌≡◌, ℕ, Bool, true, false, List, [], ◌∷◌, ◌⊎◌, inl, inr, refl, sym, subst, codes, bytes_eq}
+use Rattle.std.proofs.Common.{◌≡◌, ℕ, Bool, true, false, ◌&&◌, if◌then◌else◌, List, [], ◌∷◌, Some, is_ok, refl, sym, subst, bytes_eq}
 use Rattle.std.proofs.lemmas.Slice.Eq.{bytes_eq-Decides}
-use Rattle.text_advice.specs.Advice.{Opens}
+use Rattle.model_events.specs.declared.event.Object.{Object}
+use Rattle.text_advice.specs.Advice.{Opens, opening}
+use Rattle.text_lines.specs.declared.value_type.ValueType.{ValueType}
 use Rattle.text_lines.specs.Header.{header_of}
-use Rattle.text_lines.specs.ValueTypes.{object_of_name}
+use Rattle.text_lines.specs.Lexer.{words_of, find}
+use Rattle.text_lines.specs.Objects.{names}
+use Rattle.text_lines.specs.ValueTypes.{meaning_of, object_of_name, type_named}
 
--- what is to hold of a name
-abbrev Holds : List ℕ → Type 0
-Holds name = Opens name (object_of_name name)
+-- each name opens the object of its row
+abbrev all_open : List (List ℕ × Object Unit) → Bool
+all_open [] = true
+all_open (row ∷ rows) = is_ok (header_of (meaning_of (type_named row.0)).numerals (words_of (opening row.1 row.0))) && all_open rows
 
--- the names of the objects, for each of which it holds
-abbrev names : List (List ℕ)
-names =
-    codes "mutex" ∷ codes "spin" ∷ codes "semaphore" ∷ codes "barrier" ∷ codes "rwreader" ∷ codes "rwwriter" ∷ codes "condvar" ∷ codes "once" ∷ codes "lazy"
-    ∷ codes "atomic_u64" ∷ codes "atomic_u128" ∷ codes "atomic_i64" ∷ codes "atomic_i128" ∷ []
-
-abbrev AllHold : List (List ℕ) → Type 0
-AllHold [] = Unit {0}
-AllHold (known ∷ knowns) = Holds known × AllHold knowns
-
-all_hold : AllHold names
+names_open : (type : ValueType) → all_open (names (meaning_of type).numerals) ≡ true
 unfolding header_of
-all_hold = (refl, (refl, (refl, (refl, (refl, (refl, (refl, (refl, (refl, (refl, (refl, (refl, (refl, tt)))))))))))))
+names_open ValueType.U64 = refl
+names_open ValueType.U128 = refl
+names_open ValueType.I64 = refl
+names_open ValueType.I128 = refl
 
--- a name that is none of them
-abbrev IsNone : List ℕ → List (List ℕ) → Type 0
-IsNone name [] = Unit {0}
-IsNone name (known ∷ knowns) = (bytes_eq name known ≡ false) × IsNone name knowns
+both : (a b : Bool) → (a && b) ≡ true → (a ≡ true) × (b ≡ true)
+both true b e = (refl, e)
+both false b e = absurd cc
 
-tests : (b : Bool) → (b ≡ true) ⊎ (b ≡ false)
-tests true = inl refl
-tests false = inr refl
-
-one_or_none : (name : List ℕ) (knowns : List (List ℕ)) → AllHold knowns → Holds name ⊎ IsNone name knowns
-one_or_none name [] hold = inr tt
-one_or_none name (known ∷ knowns) hold = by_test (tests (bytes_eq name known)) (one_or_none name knowns hold.1)
+-- so does whatever name is looked up
+found_opens : (rows : List (List ℕ × Object Unit)) → all_open rows ≡ true → (name : List ℕ) → Opens name (find name rows)
+found_opens [] all name = tt
+found_opens (row ∷ rows) all name = by_test (bytes_eq name row.0) refl (both _ _ all).0 (found_opens rows (both _ _ all).1 name)
   where
-    others : Holds name ⊎ IsNone name knowns → bytes_eq name known ≡ false → Holds name ⊎ IsNone name (known ∷ knowns)
-    others (inl holds) not = inl holds
-    others (inr none) not = inr (not, none)
-
-    by_test : (bytes_eq name known ≡ true) ⊎ (bytes_eq name known ≡ false) → Holds name ⊎ IsNone name knowns → Holds name ⊎ IsNone name (known ∷ knowns)
-    by_test (inl is) rest = inl (subst Holds (sym ((bytes_eq-Decides name known).0 is)) hold.0)
-    by_test (inr not) rest = others rest not
+    by_test : (is : Bool) → bytes_eq name row.0 ≡ is → Opens row.0 (Some row.1) → Opens name (find name rows) → Opens name (if is then Some row.1 else find name rows)
+    by_test true e here others = subst (λ known. Opens known (Some row.1)) (sym ((bytes_eq-Decides name row.0).0 e)) here
+    by_test false e here others = others
 
 pub opens : (name : List ℕ) → Opens name (object_of_name name)
-opens name = by_name (one_or_none name names all_hold)
-  where
-    by_name : Holds name ⊎ IsNone name names → Opens name (object_of_name name)
-    by_name (inl holds) = holds
-    by_name (inr none) = rw (none.1.1.1.1.1.1.1.1.1.1.0, none.1.1.1.1.1.1.1.1.1.1.1.0, none.1.1.1.1.1.1.1.1.1.1.1.1.0, none.0, none.1.0, none.1.1.0, none.1.1.1.0, none.1.1.1.1.0, none.1.1.1.1.1.0, none.1.1.1.1.1.1.0, none.1.1.1.1.1.1.1.0, none.1.1.1.1.1.1.1.1.0, none.1.1.1.1.1.1.1.1.1.0) tt
+opens name = found_opens (names (meaning_of (type_named name)).numerals) (names_open (type_named name)) name

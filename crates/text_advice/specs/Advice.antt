@@ -3,16 +3,17 @@ use Rattle.std.specs.Prelude.{◌≡◌, ℕ, ◌+◌, ◌-◌, ◌^◌, ◌/◌
 use Rattle.std.specs.List.{flat_map}
 use Rattle.std.specs.Str.{bytes_eq}
 use Rattle.model_events.specs.declared.event.Object.{Object}
-use Rattle.model_events.specs.declared.event.Object.TheVariants as objects
 use Rattle.text_lines.specs.declared.fault.FaultyLine.{FaultyLine}
 use Rattle.text_lines.specs.declared.fault.LineFault.{LineFault}
 use Rattle.text_lines.specs.declared.fault.LineFault.TheVariants as faults
 use Rattle.model_events.specs.declared.event.Call.{Call}
-use Rattle.text_lines.specs.Call.{name_of, calls_of, named}
-use Rattle.text_lines.specs.Command.{find, verbs}
+use Rattle.text_lines.specs.Call.{name_of, named}
+use Rattle.text_lines.specs.Command.{verbs}
 use Rattle.text_lines.specs.Header.{header_of}
-use Rattle.text_lines.specs.Lexer.{words_of, number_within}
+use Rattle.text_lines.specs.Lexer.{words_of, number_within, find}
+use Rattle.text_lines.specs.Objects.{calls_of}
 use Rattle.text_lines.specs.ValueTypes.{meaning_of, object_of_name, type_named}
+use Rattle.text_advice.specs.Objects.{text_begins, has_no_call, first_line, first_words, first_numbers, numbers_after, numbers_within, verbs_of, answers}
 
 -- a line, counted from 1; empty where there is none
 abbrev pub first_of : List (List ℕ) → List ℕ
@@ -51,81 +52,6 @@ byte_shown byte = if is_plain byte then byte ∷ [] else 92 ∷ 120 ∷ digit_of
 abbrev pub repeated : List ℕ → List ℕ
 repeated bytes = flat_map byte_shown (take 200 bytes) ++ (if nat_lt 200 (length bytes) then codes ".." else [])
 
--- What is said of each object.
-
-abbrev pub has_no_call : Object Unit → List ℕ
-has_no_call objects.Mutex = codes "a mutex has no call `"
-has_no_call objects.Spin = codes "a spin lock has no call `"
-has_no_call (objects.Semaphore initial) = codes "a semaphore has no call `"
-has_no_call (objects.Barrier n) = codes "a barrier has no call `"
-has_no_call objects.ReaderLock = codes "a reader-writer lock has no call `"
-has_no_call objects.WriterLock = codes "a reader-writer lock has no call `"
-has_no_call objects.Condvar = codes "a condition variable has no call `"
-has_no_call objects.Once = codes "a once has no call `"
-has_no_call (objects.Lazy v) = codes "a lazy value has no call `"
-has_no_call (objects.Atomic v) = codes "an atomic has no call `"
-
-abbrev pub first_line : Object Unit → List ℕ
-first_line objects.Mutex = codes "a mutex's first line has a number of parties, and no value: "
-first_line objects.Spin = codes "a spin lock's first line has a number of parties, and no value: "
-first_line (objects.Semaphore initial) = codes "a semaphore's first line has a number of parties, and a value: "
-first_line (objects.Barrier n) = codes "a barrier's first line has a number of parties, and how many open a round: "
-first_line objects.ReaderLock = codes "a reader-writer lock's first line has a number of parties, and no value: "
-first_line objects.WriterLock = codes "a reader-writer lock's first line has a number of parties, and no value: "
-first_line objects.Condvar = codes "a condition variable's first line has a number of parties, and no value: "
-first_line objects.Once = codes "a once's first line has a number of parties, and no value: "
-first_line (objects.Lazy v) = codes "a lazy value's first line has a number of parties, and the value that its closure gives: "
-first_line (objects.Atomic v) = codes "an atomic's first line has a number of parties, and a value: "
-
--- the words after its name in a line that opens it for two parties
-abbrev pub first_words : Object Unit → List ℕ
-first_words (objects.Barrier n) = codes " 2 2"
-first_words (objects.Semaphore initial) = codes " 2 5"
-first_words (objects.Lazy v) = codes " 2 5"
-first_words (objects.Atomic v) = codes " 2 5"
-first_words objects.Mutex = codes " 2"
-first_words objects.Spin = codes " 2"
-first_words objects.ReaderLock = codes " 2"
-first_words objects.WriterLock = codes " 2"
-first_words objects.Condvar = codes " 2"
-first_words objects.Once = codes " 2"
-
-abbrev pub first_numbers : Object Unit → List ℕ
-first_numbers (objects.Barrier n) = codes "there are 1 to 64 parties, and 0 to 4294967295 arrivals open a round, in decimal digits"
-first_numbers (objects.Semaphore initial) = codes "there are 1 to 64 parties, and the value is 0 to 18446744073709551615, in decimal digits"
-first_numbers (objects.Lazy v) = codes "there are 1 to 64 parties, and the value is 0 to 18446744073709551615, in decimal digits"
-first_numbers (objects.Atomic v) = codes "there are 1 to 64 parties, and the value is one of the atomic's type, in decimal digits"
-first_numbers objects.Mutex = codes "there are 1 to 64 parties, in decimal digits"
-first_numbers objects.Spin = codes "there are 1 to 64 parties, in decimal digits"
-first_numbers objects.ReaderLock = codes "there are 1 to 64 parties, in decimal digits"
-first_numbers objects.WriterLock = codes "there are 1 to 64 parties, in decimal digits"
-first_numbers objects.Condvar = codes "there are 1 to 64 parties, in decimal digits"
-first_numbers objects.Once = codes "there are 1 to 64 parties, in decimal digits"
-
-abbrev pub numbers_after : Object Unit → List ℕ
-numbers_after (objects.Semaphore initial) = codes "a number follows `post`, and may follow `go`, and none follows the others"
-numbers_after (objects.Atomic v) = codes "two values follow `compare_exchange`, one follows `some` and each call but `load` and `fetch_update`, and a number may follow `go`"
-numbers_after other = codes "a number may follow `go`, and none follows the others"
-
-abbrev pub numbers_within : Object Unit → List ℕ
-numbers_within (objects.Semaphore initial) = codes "`go` makes 1 to 100000 steps, and `post` gives 0 to 18446744073709551615 permits"
-numbers_within (objects.Atomic v) = codes "`go` makes 1 to 100000 steps, and a value is one of the atomic's type, in decimal digits"
-numbers_within other = codes "`go` makes 1 to 100000 steps"
-
-abbrev pub verbs_of : Object Unit → List ℕ
-verbs_of (objects.Atomic v) = codes "; a call under way: go, run, some, none"
-verbs_of objects.Spin = codes "; a call under way: go, run"
-verbs_of objects.Once = codes "; a call under way: go, run"
-verbs_of (objects.Lazy v) = codes "; a call under way: go, run"
-verbs_of other = codes "; a call under way: go, run, wait, abort"
-
-abbrev pub answers : Object Unit → List ℕ
-answers (objects.Atomic v) = codes "the call stands at its closure, which answers `some` and a value, or `none`"
-answers other = codes "the call stands at its closure, which answers `wait` or `abort`"
-
-abbrev pub has_start_wait : Object Unit → Bool
-has_start_wait o = is_some (named (codes "start_wait") (calls_of o))
-
 -- The sentence.
 
 -- begins as a comment does in many languages: with #, /, ; or %
@@ -148,7 +74,7 @@ abbrev pub of_unknown : Object Unit → List ℕ → List ℕ
 of_unknown o name = has_no_call o ++ (repeated name ++ may_ask (codes "`: ") o)
 
 abbrev pub of_verb : Object Unit → List ℕ → List ℕ
-of_verb o name = if (is_some (find {T = Unit} name verbs) || is_some (named name (calls_of o))) then numbers_after o else of_unknown o name
+of_verb o name = if (is_some (find name (verbs {T = Unit})) || is_some (named name (calls_of o))) then numbers_after o else of_unknown o name
 
 abbrev pub after_party : Object Unit → List (List ℕ) → List ℕ
 after_party o [] = has_two o
@@ -181,6 +107,9 @@ abbrev pub of_idle : Object Unit → List (List ℕ) → List ℕ
 of_idle o words =
     if counts_steps words then codes "the call ended before these steps, or none was under way: `run` goes to its end"
     else codes "the party has no call under way, and begins one by its name: " ++ listed (calls_of o)
+
+abbrev pub has_start_wait : Object Unit → Bool
+has_start_wait o = is_some (named (codes "start_wait") (calls_of o))
 
 abbrev pub means_to_begin : Object Unit → List (List ℕ) → Bool
 means_to_begin o (party ∷ name ∷ words) = (bytes_eq name (codes "wait")) && has_start_wait o
@@ -219,7 +148,7 @@ abbrev pub of_no_object : List ℕ → List ℕ
 of_no_object line =
     if is_marked line then codes "the first line has a byte-order mark"
     else if is_comment (first_word (words_of line)) then codes "a text has no comments, and begins with its object"
-    else codes "a text begins with its object: mutex, spin, semaphore, barrier, rwreader, rwwriter, condvar, once, lazy, atomic_u64, atomic_u128, atomic_i64, atomic_i128"
+    else text_begins
 
 abbrev pub sentence_of : Option (Object Unit) → List ℕ → FaultyLine → List ℕ
 sentence_of None line found = of_no_object line

@@ -1,3 +1,4 @@
+pub mod Objects
 pub mod Advice
 pub mod Failed
 pub mod Question

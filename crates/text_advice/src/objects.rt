@@ -1,9 +1,22 @@
-//! What is said of each object.
+//! What is said of each object, where a text or a question has a fault.
 ghost use Rattle.std.specs.Prelude.{◌≡◌};
-ghost use Rattle.text_advice.specs.Advice as meaning;
+ghost use Rattle.text_advice.specs.Objects as meaning;
 
 use model_events::event::Object;
-use text_lines::call::{calls_of, named};
+
+/// With what a text begins.
+pub fn text_begins() -> &'static [u8]
+    ensures { result.now ≡ meaning.text_begins }
+{
+    b"a text begins with its object: mutex, spin, semaphore, barrier, rwreader, rwwriter, condvar, once, lazy, atomic_u64, atomic_u128, atomic_i64, atomic_i128"
+}
+
+/// With what a question begins.
+pub fn question_begins() -> &'static [u8]
+    ensures { result.now ≡ meaning.question_begins }
+{
+    b"a question begins with its object: mutex, spin, semaphore, barrier, rwreader, rwwriter, condvar, once, lazy, and of the atomics atomic_u64"
+}
 
 /// That it has no call of a name, up to the name.
 pub fn has_no_call(object: Object<()>) -> &'static [u8]
@@ -56,12 +69,7 @@ pub fn first_words(object: Object<()>) -> &'static [u8]
     match object {
         Object::Barrier(_) => b" 2 2",
         Object::Semaphore(_) | Object::Lazy(_) | Object::Atomic(_) => b" 2 5",
-        Object::Mutex
-        | Object::Spin
-        | Object::ReaderLock
-        | Object::WriterLock
-        | Object::Condvar
-        | Object::Once => b" 2",
+        _ => b" 2",
     }
 }
 
@@ -141,9 +149,68 @@ pub fn answers(object: Object<()>) -> &'static [u8]
     }
 }
 
-/// Whether it has a call that is written `start_wait`.
-pub fn has_start_wait(object: Object<()>) -> bool
-    ensures { result ≡ meaning.has_start_wait object }
+/// What may be said of the closures of an object's calls.
+pub fn closures_of(object: Object<()>) -> &'static [u8]
+    ensures { result.now ≡ meaning.closures_of object }
 {
-    named(b"start_wait", calls_of(&object)).is_some()
+    match object {
+        Object::Atomic(_) => b"may choose some 7, may choose none",
+        _ => b"may abort, aborts, sleeps",
+    }
+}
+
+/// The answers of an object that an item may look at.
+pub fn answers_of(object: Object<()>) -> &'static [u8]
+    ensures { result.now ≡ meaning.answers_of object }
+{
+    match object {
+        Object::Mutex | Object::Spin | Object::ReaderLock | Object::WriterLock => {
+            b"success, interrupted, done"
+        }
+        Object::Semaphore(_) => b"success, interrupted, done, 7",
+        Object::Condvar => b"success, interrupted, interrupted held, done",
+        Object::Barrier(_) => b"ok, full",
+        Object::Once => b"done, true, false",
+        Object::Lazy(_) => b"7",
+        Object::Atomic(_) => b"done, 7, ok 7, err 7",
+    }
+}
+
+/// Which numbers follow the object's calls.
+pub fn numbers_of_calls(object: Object<()>) -> &'static [u8]
+    ensures { result.now ≡ meaning.numbers_of_calls object }
+{
+    match object {
+        Object::Atomic(_) =>
+            b"two numbers follow `compare_exchange`, and one each call but `load` and `fetch_update`",
+        _ => b"a number follows `post` alone",
+    }
+}
+
+/// The terms of a condition.
+pub fn terms_of(object: Object<()>) -> &'static [u8]
+    ensures { result.now ≡ meaning.terms_of object }
+{
+    match object {
+        Object::Mutex => {
+            b"1 success, 1 interrupted, 1 done, 1 aborted, 1 waits, 1 holds write, word 0, stuck"
+        }
+        Object::Spin => b"1 success, 1 interrupted, 1 done, 1 holds write, word 0",
+        Object::Semaphore(_) => {
+            b"1 success, 1 interrupted, 1 done, 1 7, 1 aborted, 1 waits, word 0, stuck"
+        }
+        Object::Barrier(_) => b"1 ok, 1 full, 1 aborted, 1 waits, word 0, stuck",
+        Object::ReaderLock => {
+            b"1 success, 1 interrupted, 1 done, 1 aborted, 1 waits, 1 holds read, 1 holds write, word 0, stuck"
+        }
+        Object::WriterLock => {
+            b"1 success, 1 interrupted, 1 done, 1 aborted, 1 waits, 1 holds read, 1 holds write, word 0, counter 0, stuck"
+        }
+        Object::Condvar => {
+            b"1 success, 1 interrupted, 1 interrupted held, 1 done, 1 aborted, 1 waits, 1 holds write, word 0, waiters 0, value 0, stuck"
+        }
+        Object::Once => b"1 done, 1 true, 1 false, word 0",
+        Object::Lazy(_) => b"1 7, word 0",
+        Object::Atomic(_) => b"1 done, 1 7, 1 ok 7, 1 err 7, word 0, value 7",
+    }
 }

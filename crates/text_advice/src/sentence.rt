@@ -1,17 +1,17 @@
 //! The sentence that says what would be right in the place of a line with a fault.
 ghost use Rattle.std.specs.Prelude.{◌≡◌, ◌++◌, OnOk};
-ghost use Rattle.text_lines.specs.Call.{calls_of as listed_calls};
+ghost use Rattle.text_lines.specs.Objects.{calls_of as listed_calls};
 ghost use Rattle.text_lines.specs.Lexer.{words_of};
 ghost use Rattle.text_advice.specs.Advice as meaning;
 
 use crate::objects::{
-    answers, first_line, first_numbers, first_words, has_no_call, has_start_wait, numbers_after,
-    numbers_within, verbs_of,
+    answers, first_line, first_numbers, first_words, has_no_call, numbers_after, numbers_within,
+    text_begins, verbs_of,
 };
 use crate::repeat::repeat;
 use model_events::event::{Call, Object};
 use std::alloc::AllocError;
-use text_lines::call::{calls_of, name_of};
+use text_lines::call::{calls_of, name_of, named};
 use text_lines::command::is_known;
 use text_lines::fault::{FaultyLine, LineFault};
 use text_lines::lexer::{is, next_word, number_within};
@@ -168,6 +168,13 @@ fn of_idle(out: &mut Vec<u8>, object: Object<()>, line: &[u8]) -> Result<(), All
     }
 }
 
+/// Whether it has a call that is written `start_wait`.
+fn has_start_wait(object: Object<()>) -> bool
+    ensures { result ≡ meaning.has_start_wait object }
+{
+    named(b"start_wait", calls_of(&object)).is_some()
+}
+
 /// Whether a line answers `wait` at an object that has a call of this name in Rust, which a text begins by another.
 fn means_to_begin(object: Object<()>, line: &[u8]) -> bool
     ensures { result ≡ meaning.means_to_begin object (words_of line.now) }
@@ -270,9 +277,7 @@ fn of_no_object(out: &mut Vec<u8>, line: &[u8]) -> Result<(), AllocError>
     } else if is_comment(first_word(line)) {
         out.extend_from_slice(b"a text has no comments, and begins with its object")
     } else {
-        out.extend_from_slice(
-            b"a text begins with its object: mutex, spin, semaphore, barrier, rwreader, rwwriter, condvar, once, lazy, atomic_u64, atomic_u128, atomic_i64, atomic_i128",
-        )
+        out.extend_from_slice(text_begins())
     }
 }
 

@@ -5,7 +5,8 @@ use Rattle.text_lines.specs.declared.command.Command.{Command}
 use Rattle.text_lines.specs.declared.command.Form.{Form}
 use Rattle.text_lines.specs.declared.command.Task.{Task}
 use Rattle.text_lines.specs.declared.command.Values.{Values}
-use Rattle.text_lines.specs.Command.{find, verbs, with_these, task_by, task_if, task_of, party_of, command_of}
+use Rattle.text_lines.specs.Command.{verbs, with_these, task_by, task_if, task_of, party_of, command_of}
+use Rattle.text_lines.specs.Lexer.{find}
 use Rattle.text_lines.specs.Numerals.{Numerals, ReadsValues}
 use Rattle.text_lines.proofs.FaultLaws.{ok_is, bind_ok}
 

@@ -6,4 +6,5 @@ pub use Rattle.text_lines.specs.Names.{is_ascii_digit, bytes_eq, Call, Object, A
 pub use Rattle.text_lines.specs.Lexer.{lines_of, onto_line, cut_line, words_of, is_blank, onto_word, before_bytes, number_from, fitting, number_within, number_of}
 pub use Rattle.text_lines.specs.declared.fault.LineFault.{LineFault}
 pub use Rattle.text_lines.specs.Fault.{◌>>=◌}
-pub use Rattle.text_lines.specs.Call.{calls_of, named}
+pub use Rattle.text_lines.specs.Call.{named}
+pub use Rattle.text_lines.specs.Objects.{calls_of}

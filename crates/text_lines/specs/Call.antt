@@ -1,5 +1,5 @@
--- What calls are called in a text, and which calls each object has.
-use Rattle.text_lines.specs.Names.{ℕ, if◌then◌else◌, List, [], ◌∷◌, ◌++◌, Option, Some, None, codes, bytes_eq, Call, Object}
+-- What calls are called in a text.
+use Rattle.text_lines.specs.Names.{ℕ, if◌then◌else◌, List, [], ◌∷◌, Option, Some, None, codes, bytes_eq, Call}
 
 -- as in the Rust crate, but that `wait` is `start_wait`, since `wait` is the closure's answer
 abbrev pub name_of : {T : Type 0} → Call T → List ℕ
@@ -34,45 +34,6 @@ name_of (Call.FetchNand v) = codes "fetch_nand"
 name_of (Call.FetchMax v) = codes "fetch_max"
 name_of (Call.FetchMin v) = codes "fetch_min"
 name_of Call.FetchUpdate = codes "fetch_update"
-
--- The calls of each object. They bring no values here: each stands for all of its name.
-
-abbrev pub mutex_calls : List (Call Unit)
-mutex_calls = Call.Lock ∷ Call.TryLock ∷ Call.Unlock ∷ []
-
--- those of both reader-writer locks
-abbrev pub rw_lock_calls : List (Call Unit)
-rw_lock_calls = Call.ReadLock ∷ Call.TryReadLock ∷ Call.WriteLock ∷ Call.TryWriteLock ∷ Call.Unlock ∷ []
-
-abbrev pub atomic_calls : List (Call Unit)
-atomic_calls =
-    Call.Load
-    ∷ Call.Store tt
-    ∷ Call.Swap tt
-    ∷ Call.CompareExchange tt tt
-    ∷ Call.CompareExchangeWeak tt tt
-    ∷ Call.FetchAdd tt
-    ∷ Call.FetchSub tt
-    ∷ Call.FetchAnd tt
-    ∷ Call.FetchOr tt
-    ∷ Call.FetchXor tt
-    ∷ Call.FetchNand tt
-    ∷ Call.FetchMax tt
-    ∷ Call.FetchMin tt
-    ∷ Call.FetchUpdate
-    ∷ []
-
-abbrev pub calls_of : {T : Type 0} → Object T → List (Call Unit)
-calls_of Object.Mutex = mutex_calls
-calls_of Object.Spin = Call.Lock ∷ Call.BlockingLock ∷ Call.TryLock ∷ Call.Unlock ∷ []
-calls_of (Object.Semaphore initial) = Call.Value ∷ Call.Post 0 ∷ Call.Wait ∷ Call.TryWait ∷ []
-calls_of Object.ReaderLock = rw_lock_calls
-calls_of Object.WriterLock = rw_lock_calls
-calls_of (Object.Barrier n) = Call.Wait ∷ []
-calls_of Object.Condvar = mutex_calls ++ (Call.NotifyOne ∷ Call.NotifyAll ∷ Call.Wait ∷ [])
-calls_of Object.Once = Call.CallOnce ∷ Call.IsCompleted ∷ []
-calls_of (Object.Lazy v) = Call.Force ∷ []
-calls_of (Object.Atomic v) = atomic_calls
 
 -- the first of this name
 abbrev pub named : List ℕ → List (Call Unit) → Option (Call Unit)

@@ -1,15 +1,16 @@
 -- What a line after the first asks, and of whom.
-use Rattle.text_lines.specs.Names.{ℕ, zero, suc, ◌-◌, ◌^◌, if◌then◌else◌, List, [], ◌∷◌, Option, Some, None, Result, Ok, Err, codes, decimal, bytes_eq, Call, Input, Object}
+use Rattle.text_lines.specs.Names.{ℕ, zero, suc, ◌-◌, ◌^◌, List, [], ◌∷◌, Option, Some, None, Result, Ok, Err, codes, decimal, Call, Input, Object}
 use Rattle.model_events.specs.declared.WaitAction.{WaitAction}
 use Rattle.text_lines.specs.declared.command.Command.{Command}
 use Rattle.text_lines.specs.declared.command.Form.{Form}
 use Rattle.text_lines.specs.declared.command.Task.{Task}
 use Rattle.text_lines.specs.declared.command.Values.{Values}
 use Rattle.text_lines.specs.declared.fault.LineFault.{LineFault}
-use Rattle.text_lines.specs.Call.{calls_of, named}
+use Rattle.text_lines.specs.Call.{named}
 use Rattle.text_lines.specs.Fault.{◌>>=◌}
-use Rattle.text_lines.specs.Lexer.{number_within, nothing, only, only_two, only_number}
+use Rattle.text_lines.specs.Lexer.{number_within, find, nothing, only, only_two, only_number}
 use Rattle.text_lines.specs.Numerals.{Numerals}
+use Rattle.text_lines.specs.Objects.{calls_of}
 
 -- The verbs of every object, and what each asks.
 
@@ -23,11 +24,6 @@ verbs =
     ∷ (codes "some", Form.Choice)
     ∷ (codes "none", Form.Alone (Task.Give (Input.Choose None)))
     ∷ []
-
--- the first row of this name
-abbrev pub find : {T : Type 0} → List ℕ → List (List ℕ × Form T) → Option (Form T)
-find name [] = None
-find name (row ∷ rows) = if bytes_eq name row.0 then Some row.1 else find name rows
 
 -- The numbers that follow.
 

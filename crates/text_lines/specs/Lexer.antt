@@ -1,5 +1,5 @@
 -- The lines of a text, the words of a line, and the numbers that words write.
-use Rattle.text_lines.specs.Names.{ℕ, ℤ, pos, neg_ℤ, ◌+◌, ◌*◌, ◌-◌, Bool, true, false, ◌&&◌, ◌||◌, ◌==◌, nat_le, nat_lt, if◌then◌else◌, List, [], ◌∷◌, Option, Some, None, Result, Ok, Err, is_ascii_digit, fits_signed}
+use Rattle.text_lines.specs.Names.{ℕ, ℤ, pos, neg_ℤ, ◌+◌, ◌*◌, ◌-◌, Bool, true, false, ◌&&◌, ◌||◌, ◌==◌, nat_le, nat_lt, if◌then◌else◌, List, [], ◌∷◌, Option, Some, None, Result, Ok, Err, is_ascii_digit, bytes_eq, fits_signed}
 use Rattle.text_lines.specs.declared.fault.LineFault.{LineFault}
 use Rattle.text_lines.specs.Fault.{◌>>=◌}
 use denote.Ref.{Bor}
@@ -110,6 +110,13 @@ or_bad_number (Some x) = Ok x
 -- the number of a word, where it is one of the signed type
 abbrev pub signed_within : Bool → List ℕ → Result ℤ LineFault
 signed_within wide word = or_bad_number (fitting_signed wide (signed_of word))
+
+-- What a word names.
+
+-- the first row of this name
+abbrev pub find : {A : Type 0} → List ℕ → List (List ℕ × A) → Option A
+find name [] = None
+find name (row ∷ rows) = if bytes_eq name row.0 then Some row.1 else find name rows
 
 -- What is left of a line.
 

@@ -3,6 +3,7 @@ pub mod Fault
 pub mod Lexer
 pub mod Numerals
 pub mod NumeralLaws
+pub mod Objects
 pub mod ValueTypes
 pub mod Header
 pub mod Call

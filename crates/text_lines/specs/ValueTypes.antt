@@ -1,9 +1,9 @@
 -- The integer type of a text's values: that of the atomic which its first line names.
 use Rattle.text_lines.specs.Names.{ℕ, ℤ, false, true, if◌then◌else◌, List, [], ◌∷◌, Option, bytes_eq, Arithmetic, u64_arithmetic, u128_arithmetic, i64_arithmetic, i128_arithmetic, Object}
 use Rattle.text_lines.specs.declared.value_type.ValueType.{ValueType}
-use Rattle.text_lines.specs.Header.{object_named}
 use Rattle.text_lines.specs.Lexer.{lines_of, words_of}
 use Rattle.text_lines.specs.Numerals.{Numerals, ReadsValues, ReadsItsOwn, u64_numerals, u128_numerals, i64_numerals, i128_numerals}
+use Rattle.text_lines.specs.Objects.{object_named}
 use Rattle.text_lines.specs.NumeralLaws.{unsigned_reads, unsigned_reads_back, signed_reads, signed_reads_back}
 
 -- the type of the atomics of this name; every other object has u64

@@ -1,9 +1,10 @@
-//! What calls are called in a text, and which calls each object has.
+//! What calls are called in a text.
 ghost use Rattle.std.specs.Prelude.{◌≡◌};
 ghost use Rattle.text_lines.specs.Call as meaning;
 
 use crate::lexer::is;
-use model_events::event::{Call, Object};
+pub use crate::objects::calls_of;
+use model_events::event::Call;
 
 /// The name of a call, as in the Rust crate, but that `wait` is `start_wait`, since `wait` is the closure's answer.
 pub fn name_of<T>(call: &Call<T>) -> &'static str
@@ -41,59 +42,6 @@ pub fn name_of<T>(call: &Call<T>) -> &'static str
         Call::FetchMax(_) => "fetch_max",
         Call::FetchMin(_) => "fetch_min",
         Call::FetchUpdate => "fetch_update",
-    }
-}
-
-const MUTEX_CALLS: [Call<()>; 3] = [Call::Lock, Call::TryLock, Call::Unlock];
-
-/// The calls that a text may begin at the object. They bring no values here: each stands for all of its name.
-pub fn calls_of<T>(object: &Object<T>) -> &'static [Call<()>]
-    ensures { result.now ≡ meaning.calls_of object.now }
-{
-    match object {
-        Object::Mutex => &MUTEX_CALLS,
-        Object::Spin => &[Call::Lock, Call::BlockingLock, Call::TryLock, Call::Unlock],
-        Object::Semaphore(_) => &[Call::Value, Call::Post(0), Call::Wait, Call::TryWait],
-        Object::ReaderLock | Object::WriterLock => {
-            &[
-                Call::ReadLock,
-                Call::TryReadLock,
-                Call::WriteLock,
-                Call::TryWriteLock,
-                Call::Unlock,
-            ]
-        }
-        Object::Barrier(_) => &[Call::Wait],
-        Object::Condvar => {
-            &[
-                Call::Lock,
-                Call::TryLock,
-                Call::Unlock,
-                Call::NotifyOne,
-                Call::NotifyAll,
-                Call::Wait,
-            ]
-        }
-        Object::Once => &[Call::CallOnce, Call::IsCompleted],
-        Object::Lazy(_) => &[Call::Force],
-        Object::Atomic(_) => {
-            &[
-                Call::Load,
-                Call::Store(()),
-                Call::Swap(()),
-                Call::CompareExchange((), ()),
-                Call::CompareExchangeWeak((), ()),
-                Call::FetchAdd(()),
-                Call::FetchSub(()),
-                Call::FetchAnd(()),
-                Call::FetchOr(()),
-                Call::FetchXor(()),
-                Call::FetchNand(()),
-                Call::FetchMax(()),
-                Call::FetchMin(()),
-                Call::FetchUpdate,
-            ]
-        }
     }
 }
 

@@ -1,15 +1,17 @@
 //! What a line after the first asks, and of whom.
 ghost use Rattle.std.specs.Prelude.{◌≡◌, ◌||◌, List, is_some, ⊤};
-ghost use Rattle.text_lines.specs.Lexer.{words_of};
-ghost use Rattle.text_lines.specs.Call.{named as call_of_name, calls_of as listed_calls};
+ghost use Rattle.text_lines.specs.Lexer.{find, words_of};
+ghost use Rattle.text_lines.specs.Call.{named as call_of_name};
+ghost use Rattle.text_lines.specs.Objects.{calls_of as listed_calls};
 ghost use Rattle.text_lines.specs.Command as meaning;
 
-use crate::call::{calls_of, named};
+use crate::call::named;
 use crate::fault::LineFault;
 use crate::integer::TextInteger;
 use crate::lexer::{
     is, next_word, nothing, number_within, only_number, only_two_values, only_value,
 };
+use crate::objects::calls_of;
 use model_events::WaitAction;
 use model_events::event::{Call, Input, Object};
 use std::alloc::AllocError;
@@ -79,7 +81,7 @@ impl<T: Copy> Clone for Form<T> {
 /// The verbs that every object knows.
 #[inline(always)]
 fn verb<T>(name: &[u8]) -> Option<Form<T>>
-    ensures { result ≡ meaning.find name.now meaning.verbs }
+    ensures { result ≡ find name.now meaning.verbs }
 {
     if is(name, b"go") {
         Some(Form::Steps)
@@ -100,7 +102,7 @@ fn verb<T>(name: &[u8]) -> Option<Form<T>>
 
 /// Whether this is a verb that a text knows of the object: one of those of every object, or one of its calls.
 pub fn is_known<T: Copy>(object: Object<T>, name: &[u8]) -> bool
-    ensures { result ≡ is_some (meaning.find {T = T} name.now meaning.verbs) || is_some (call_of_name name.now (listed_calls object)) }
+    ensures { result ≡ is_some (find name.now (meaning.verbs {T = T})) || is_some (call_of_name name.now (listed_calls object)) }
 {
     verb::<T>(name).is_some() || named(name, calls_of(&object)).is_some()
 }

@@ -14,4 +14,5 @@ pub mod fault;
 pub mod header;
 pub mod integer;
 pub mod lexer;
+pub mod objects;
 pub mod value_type;

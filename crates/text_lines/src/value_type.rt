@@ -3,9 +3,9 @@ ghost use Rattle.std.specs.Prelude.{◌≡◌};
 ghost use Rattle.text_lines.specs.Lexer.{lines_of};
 ghost use Rattle.text_lines.specs.ValueTypes as meaning;
 
-use crate::header;
 use crate::integer::TextInteger;
 use crate::lexer::{next_line, next_word};
+use crate::objects;
 use model_events::event::Object;
 
 /// An integer type that the values of a text may be.
@@ -37,10 +37,10 @@ pub fn object_named(name: &[u8]) -> Option<Object<()>>
     ensures { result ≡ meaning.object_of_name name.now }
 {
     match type_named(name) {
-        ValueType::U64 => header::object_named::<u64>(name),
-        ValueType::U128 => header::object_named::<u128>(name),
-        ValueType::I64 => header::object_named::<i64>(name),
-        ValueType::I128 => header::object_named::<i128>(name),
+        ValueType::U64 => objects::object_named::<u64>(name),
+        ValueType::U128 => objects::object_named::<u128>(name),
+        ValueType::I64 => objects::object_named::<i64>(name),
+        ValueType::I128 => objects::object_named::<i128>(name),
     }
 }
 

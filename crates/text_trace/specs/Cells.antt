@@ -74,13 +74,7 @@ abbrev pub holder_words : {T : Type 0} → Object T → ℕ → HoldKind → Lis
 holder_words Object.ReaderLock party kind = decimal (party + 1) ++ kind_words kind
 holder_words Object.WriterLock party kind = decimal (party + 1) ++ kind_words kind
 holder_words (Object.Atomic v) party kind = decimal (party + 1) ++ kind_words kind
-holder_words Object.Mutex party kind = decimal (party + 1)
-holder_words Object.Spin party kind = decimal (party + 1)
-holder_words (Object.Semaphore initial) party kind = decimal (party + 1)
-holder_words (Object.Barrier n) party kind = decimal (party + 1)
-holder_words Object.Condvar party kind = decimal (party + 1)
-holder_words Object.Once party kind = decimal (party + 1)
-holder_words (Object.Lazy v) party kind = decimal (party + 1)
+holder_words other party kind = decimal (party + 1)
 
 abbrev pub after_comma : List ℕ → List ℕ
 after_comma [] = []

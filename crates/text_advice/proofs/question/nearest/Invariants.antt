@@ -1,5 +1,5 @@
 use Rattle.std.proofs.Common.{◌≡◌, ◌≤◌, length}
-use Rattle.text_lines.specs.Call.{calls_of}
+use Rattle.text_lines.specs.Objects.{calls_of}
 use Rattle.text_advice.specs.Question as meaning
 use Rattle.text_advice.proofs.question.nearest.Given as goal
 
