@@ -54,7 +54,7 @@ impl<X: Known> Tally for Held<X> {
 
 /// The run alone says what all passes count.
 impl Rule<(), ()> for Held<()> {
-    ghost use Rattle.running_tallies.specs.RwReaderRule.{no_holds};
+    ghost use Rattle.running_tallies.specs.RwReader.{no_holds};
 
     ghost first = { λ _. no_holds };
 
@@ -65,8 +65,7 @@ impl Rule<(), ()> for Held<()> {
 impl Counts<(), u64> for Held<()> {
     ghost use Rattle.std.proofs.Common.{refl};
     ghost use Rattle.model_rw_reader.specs.Table.{rw_reader_table};
-    ghost use Rattle.running_tallies.specs.RwReaderRule.{AreHoldsIn};
-    ghost use Rattle.running_tallies.specs.RwReaderTally.{holds_stay};
+    ghost use Rattle.running_tallies.specs.RwReader.{AreHoldsIn, holds_stay};
 
     ghost follow = { λ _. AreHoldsIn rw_reader_table };
 
@@ -78,8 +77,7 @@ impl Counts<(), u64> for Held<()> {
 impl CountsByActs<(), RwReaderScript, RwReaderPlace, u64> for Held<()> {
     ghost use Rattle.std.proofs.Common.{refl};
     ghost use Rattle.running_model.specs.Sees.{sights_after};
-    ghost use Rattle.running_tallies.specs.RwReaderRule.{held_after, held_needed};
-    ghost use Rattle.running_tallies.specs.RwReaderTally.{holds_go_on};
+    ghost use Rattle.running_tallies.specs.RwReader.{held_after, held_needed, holds_go_on};
 
     ghost free = { λ _ _ _ _ _ _. tt };
 
