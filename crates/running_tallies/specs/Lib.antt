@@ -5,7 +5,6 @@ pub mod Counts
 pub mod CountLaws
 pub mod Barrier
 pub mod Held
-pub mod HeldTally
 pub mod HeldKeeps
 pub mod RwReader
 pub mod RwWriter

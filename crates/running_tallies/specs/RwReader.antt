@@ -2,8 +2,7 @@
 use Rattle.running_tallies.specs.Names.{◌≡◌, ℕ, ◌-◌, ◌^◌, ◌<◌, ◌==◌, true, if◌then◌else◌, List, Act, Call, Event, Table, holds_of, reads_in, writes_in, u64_arithmetic, Model, IsPast, RwReaderPlace, rw_reader_table, KeepsRwReader, sym, subst, ◌∙◌, ◌∷◌, Option, arith, eqb-true, word_in, word_after, carried_out, rw_reader_intent, CountsHolds, Word, HoldKind, Hold, PendingCall, quiet_holds, StaysOnNoWord, GoesOnByActs, nat_tests, eqb-false}
 use Rattle.running_tallies.specs.declared.held.Held.{Held}
 use Rattle.running_tallies.specs.declared.held.Held.TheVariants.{Free, Writing}
-use Rattle.running_tallies.specs.Held.{both_held, read_holds, write_holds, reader_in, reader_out, Locks}
-use Rattle.running_tallies.specs.HeldTally.{same_nothing}
+use Rattle.running_tallies.specs.Held.{both_held, read_holds, write_holds, reader_in, reader_out, Locks, same_nothing}
 use Rattle.model_rw_reader.proofs.AnswerLaws.{keeps_rw_reader}
 use Rattle.model_events.proofs.Parties.{at_place}
 use Rattle.model_rw_reader.proofs.Laws.{AtRwReader, rw_reader_kept}

@@ -4,8 +4,7 @@ use Rattle.running_passes.specs.declared.part.Sights.{Sights}
 use Rattle.running_passes.specs.Sights.{seen, seen_instead, stale}
 use Rattle.running_tallies.specs.declared.held.Held.TheVariants.{Writing}
 use Rattle.running_tallies.specs.declared.rw_writer.MarkedHolds.{MarkedHolds}
-use Rattle.running_tallies.specs.Held.{read_holds, write_holds, Knows, reader_in, reader_out}
-use Rattle.running_tallies.specs.HeldTally.{same_nothing}
+use Rattle.running_tallies.specs.Held.{read_holds, write_holds, Knows, reader_in, reader_out, same_nothing}
 use Rattle.running_tallies.specs.RwReader.{Holds, no_holds, both_holds, AreHoldsIn}
 use Rattle.model_events.specs.declared.event.Wake.{Wake}
 use Rattle.model_rw_writer.specs.declared.RwWriterPlace.{RwWriterPlace}

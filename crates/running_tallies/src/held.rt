@@ -19,7 +19,7 @@ pub trait Known {
 
 /// Nothing is kept under the lock that its holds know of.
 impl Known for () {
-    ghost use Rattle.running_tallies.specs.HeldTally.{same_nothing, tells_same_nothing};
+    ghost use Rattle.running_tallies.specs.Held.{same_nothing, tells_same_nothing};
 
     ghost same = { same_nothing };
 
@@ -40,8 +40,7 @@ pub enum Held<X> {
 
 impl<X: Known> Tally for Held<X> {
     ghost use Rattle.running_tallies.specs.declared.held.Held.TheVariants.{Free};
-    ghost use Rattle.running_tallies.specs.Held.{both_held};
-    ghost use Rattle.running_tallies.specs.HeldTally.{held_adds_up};
+    ghost use Rattle.running_tallies.specs.Held.{both_held, held_adds_up};
 
     ghost none = { Free };
 
