@@ -18,8 +18,7 @@ pub use Rattle.model_events.specs.declared.event.Call.{Call}
 pub use Rattle.model_events.specs.declared.event.Then.{Then}
 pub use Rattle.model_events.specs.declared.event.Word.{Word}
 pub use Rattle.model_events.specs.declared.row.Intent.{Intent}
-pub use Rattle.running_tallies.specs.BarrierRule.{in_round, no_rounds, both_rounds, known_rounds, reaching, arrived, rounds_after, word_of, AreRounds, AreRoundsIn}
-pub use Rattle.running_tallies.specs.BarrierScript.{barrier_model}
+pub use Rattle.running_tallies.specs.Barrier.{in_round, no_rounds, both_rounds, known_rounds, reaching, arrived, rounds_after, word_of, AreRounds, AreRoundsIn, barrier_model}
 pub use Rattle.running_tallies.specs.Counts.{one_more, both_counts}
 pub use Rattle.running_tallies.specs.declared.barrier.BarrierScript.{BarrierScript}
 pub use Rattle.running_tallies.specs.declared.barrier.Rounds.{Rounds}

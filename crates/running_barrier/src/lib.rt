@@ -69,7 +69,7 @@ impl<A: Allocator> Barrier<A> {
     ghost use Rattle.model_events.specs.declared.event.Call.TheVariants as calls;
     ghost use Rattle.model_events.specs.declared.event.Answer.TheVariants as answers;
     ghost use Rattle.model_events.specs.declared.row.Intent.TheVariants as intents;
-    ghost use Rattle.running_tallies.specs.BarrierScript.{barrier_model};
+    ghost use Rattle.running_tallies.specs.Barrier.{barrier_model, no_rounds, word_of};
     ghost use Rattle.running_passes.specs.Answers.{HasWoken};
     ghost use Rattle.running_passes.specs.Parts.{IsWhole};
     ghost use Rattle.running_passes.specs.Views.{first_view};
@@ -80,7 +80,6 @@ impl<A: Allocator> Barrier<A> {
     ghost use Rattle.running_model.specs.Counts.{HasSeen};
     ghost use Rattle.running_model.specs.Stages.{id_of};
     ghost use Rattle.running_passes.specs.Sights.{stale};
-    ghost use Rattle.running_tallies.specs.BarrierRule.{no_rounds, word_of};
     ghost use Rattle.running_tallies.specs.Shown.{object_shown, index_shown};
     ghost use Rattle.running_barrier.specs.BarrierSteps.{Loaded, Exchanged, HasAll};
     ghost use Rattle.running_barrier.specs.BarrierParties.{HasLooked, HasJoined, ComesToStay, Looks, HasLeft, OnceLooked, OnceToStay, OnceLooking};

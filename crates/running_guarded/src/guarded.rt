@@ -10,7 +10,7 @@ ghost use Rattle.model_events.specs.declared.hold.HoldKind.TheVariants as kinds;
 ghost use Rattle.model_events.specs.declared.row.Intent.TheVariants as intents;
 ghost use Rattle.model_events.specs.declared.WaitAction.TheVariants as actions;
 ghost use Rattle.model_mutex.specs.declared.MutexPlace.TheVariants as places;
-ghost use Rattle.running_tallies.specs.MutexScript.{mutex_model};
+ghost use Rattle.running_tallies.specs.Mutex.{mutex_model};
 ghost use Rattle.running_model.specs.Slots.{Slot};
 ghost use Rattle.running_model.specs.Plays.{Beginning, MayStep};
 ghost use Rattle.running_model.specs.Tries.{spun, IsRefused, IsStanding, IsGranted, HasGivenUp as HasEndedRefused, OnceRefused, OnceStanding};

@@ -4,7 +4,7 @@ ghost use Rattle.running_passes.specs.declared.part.Part.{Part};
 ghost use Rattle.running_passes.specs.Parts.{half, IsAgain, IsSamePart, AddUp};
 ghost use Rattle.running_passes.specs.Views.{left_view, right_view, joined_view, spent_view};
 ghost use Rattle.running_model.specs.Passes.{core_played};
-ghost use Rattle.running_tallies.specs.MutexRule.{no_holds};
+ghost use Rattle.running_tallies.specs.Mutex.{no_holds};
 ghost use Rattle.running_spin_lock.specs.ValueRule.{none_held, both_held, view_in};
 
 use crate::guarded::Guarded;

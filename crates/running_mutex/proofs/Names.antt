@@ -14,7 +14,7 @@ pub use Rattle.running_model.specs.Counts.{HasSeen, HasDone}
 pub use Rattle.running_model.specs.Turns.{IsOver, IsOverAside}
 pub use Rattle.running_semaphore.specs.SemaphoreShown.{SemPass, HasTaken, HasPlayedPost, initial_of}
 pub use Rattle.running_tallies.proofs.OneHold.{tried_alone, IsTry, tried}
-pub use Rattle.running_tallies.specs.MutexTally.{mutex_is_for_one, holds_add_up, word_is_held}
+pub use Rattle.running_tallies.specs.Mutex.{mutex_is_for_one, holds_add_up, word_is_held}
 pub use Rattle.std.proofs.Common.{◌≡◌, ℕ, ◌<◌, Bool, true, false, MatchBool, ◌⊎◌, subst, arith, ◌≢◌, ◌+◌, ◌-◌, ◌%◌, ◌^◌, [], ◌∷◌, sym, refl, ap, ◌∙◌, List, None, Some, ◌==◌, suc}
 pub use Rattle.std.proofs.lemmas.Bool.{eqb-true, eqb-false, ne_eqb, MatchBool-at_true, MatchBool-at_false, true≢false}
 pub use Rattle.std.proofs.lemmas.Bool.Decides.{nat_tests}

@@ -32,8 +32,7 @@ pub use Rattle.running_passes.specs.declared.pass.Pass.{Pass}
 pub use Rattle.running_passes.specs.declared.view.View.{View}
 pub use Rattle.running_semaphore.specs.SemaphoreShown.{SemPass, IsSemPass, IsEmpty, HasTaken, worth_of, HasPlayed, HasPlayedPost, initial_of}
 pub use Rattle.running_semaphore.specs.SemaphoreSteps.{gave}
-pub use Rattle.running_tallies.specs.MutexRule.{granted, released, AreHoldsIn, both_holds, no_holds, holds, holds_after}
-pub use Rattle.running_tallies.specs.MutexScript.{mutex_model}
+pub use Rattle.running_tallies.specs.Mutex.{granted, released, AreHoldsIn, both_holds, no_holds, holds, holds_after, mutex_model}
 pub use Rattle.running_tallies.specs.declared.mutex.Holds.{Holds}
 pub use Rattle.running_tallies.specs.declared.mutex.MutexScript.{MutexScript}
 pub use Rattle.std.proofs.Common.{false, cond, refl, arith, zero, suc}

@@ -117,7 +117,7 @@ impl CondPass {
     ghost use Rattle.running_passes.specs.Passes.{view, part_of};
     ghost use Rattle.running_passes.specs.Views.{left_view, right_view, joined_view};
     ghost use Rattle.running_model.specs.Passes.{core_played, both_played};
-    ghost use Rattle.running_tallies.specs.SemaphoreRule.{no_permits, both_permits};
+    ghost use Rattle.running_tallies.specs.Semaphore.{no_permits, both_permits};
     ghost use Rattle.running_mutex.specs.CondRule.{no_waits, both_waits};
     ghost use Rattle.running_mutex.specs.CondShown.{IsCondPass, waits_in, permits_in};
 
@@ -191,7 +191,7 @@ impl<A: Allocator> ConditionVariable<A> {
     ghost use Rattle.running_passes.specs.Views.{first_view};
     ghost use Rattle.running_model.specs.Slots.{no_parties};
     ghost use Rattle.running_model.specs.Passes.{played};
-    ghost use Rattle.running_tallies.specs.SemaphoreRule.{first_permits};
+    ghost use Rattle.running_tallies.specs.Semaphore.{first_permits};
     ghost use Rattle.running_model.specs.Slots.{Slot, all_of};
     ghost use Rattle.running_mutex.specs.CondRule.{no_waits, went_in, went_out, one_more};
     ghost use Rattle.running_mutex.specs.CondParties.{IsInside, IsOut, Plays};

@@ -94,7 +94,7 @@ impl<A: Allocator> Mutex<A> {
     ghost use Rattle.model_events.specs.declared.event.Answer.TheVariants as answers;
     ghost use Rattle.model_events.specs.declared.hold.HoldKind.TheVariants as kinds;
     ghost use Rattle.model_events.specs.declared.row.Intent.TheVariants as intents;
-    ghost use Rattle.running_tallies.specs.MutexScript.{mutex_model};
+    ghost use Rattle.running_tallies.specs.Mutex.{mutex_model, no_holds};
     ghost use Rattle.running_passes.specs.Answers.{IfSuccess, IfInterrupted, IsSuccess, RestsIfInterrupted, MayAnswerAbort, HasWoken};
     ghost use Rattle.running_passes.specs.Passes.{view};
     ghost use Rattle.running_passes.specs.Views.{first_view};
@@ -103,7 +103,6 @@ impl<A: Allocator> Mutex<A> {
     ghost use Rattle.running_model.specs.Passes.{played};
     ghost use Rattle.running_model.specs.Counts.{HasGivenUp};
     ghost use Rattle.running_model.specs.Stages.{id_of};
-    ghost use Rattle.running_tallies.specs.MutexRule.{no_holds};
     ghost use Rattle.running_tallies.specs.Shown.{object_shown, index_shown};
     ghost use Rattle.running_mutex.specs.MutexShown.{mutex_row, IsMutexPass, IsAlone, IsLocked, holds_of, grants_of, pass_of, borrow_of, HasLocked, HasSeenLocked, HasUnlocked, HasEntered, HasStayed, HasTried, HasPlayed, HasPlayedUnlock, HasPlayedBoth};
 
@@ -314,7 +313,7 @@ impl<A: Allocator> Attempt<(), MutexScript, MutexPlace, u64, Holds> for Mutex<A>
     ghost use Rattle.running_passes.specs.Passes.{object_of, sights_of};
     ghost use Rattle.running_model.specs.Counts.{HasMoved, WasRefusedAt};
     ghost use Rattle.running_model.specs.Tries.{MayTry, Tried, IsGranted, IsRefused};
-    ghost use Rattle.running_tallies.specs.MutexScript.{mutex_model};
+    ghost use Rattle.running_tallies.specs.Mutex.{mutex_model};
     ghost use Rattle.std.proofs.Common.{refl};
     ghost use Rattle.model_events.specs.declared.event.Call.TheVariants as calls;
     ghost use Rattle.model_events.specs.declared.hold.HoldKind.TheVariants as kinds;

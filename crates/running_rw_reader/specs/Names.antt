@@ -22,10 +22,8 @@ pub use Rattle.running_passes.specs.Views.{looked, missed, wrote, sum_of, IsCoun
 pub use Rattle.running_passes.specs.declared.view.View.{View}
 pub use Rattle.running_rw_hold.specs.declared.hold.RwHold.{RwHold}
 pub use Rattle.running_rw_hold.specs.declared.hold.RwPass.{Ghosts}
-pub use Rattle.running_tallies.specs.Held.{read_holds, write_holds, Locks, reader_in, reader_out, Knows}
-pub use Rattle.running_tallies.specs.HeldTally.{same_nothing, tells_same_nothing, held_adds_up}
-pub use Rattle.running_tallies.specs.RwReaderRule.{Holds, no_holds, read, no_more_read, written, AreHoldsIn, both_holds, held_after}
-pub use Rattle.running_tallies.specs.RwReaderScript.{rw_reader_model}
+pub use Rattle.running_tallies.specs.Held.{read_holds, write_holds, Locks, reader_in, reader_out, Knows, same_nothing, tells_same_nothing, held_adds_up}
+pub use Rattle.running_tallies.specs.RwReader.{Holds, no_holds, read, no_more_read, written, AreHoldsIn, both_holds, held_after, rw_reader_model}
 pub use Rattle.running_tallies.specs.declared.held.Held.TheVariants.{Writing, Free, Reading, Torn}
 pub use Rattle.std.specs.Borrow.{Bor}
 pub use Rattle.std.specs.Fn.{Shared}

@@ -65,7 +65,7 @@ impl<A: Allocator> RwLockReaderPreference<A> {
     ghost use Rattle.running_model.specs.Slots.{no_parties};
     ghost use Rattle.running_model.specs.Counts.{WasRefused, HasGivenUp};
     ghost use Rattle.running_rw_hold.specs.RwShown.{IsReadHold, IsWriteHold, pass_of, borrow_of};
-    ghost use Rattle.running_tallies.specs.RwReaderRule.{no_holds};
+    ghost use Rattle.running_tallies.specs.RwReader.{no_holds};
     ghost use Rattle.running_rw_reader.specs.RwReaderSteps.{word_of};
     ghost use Rattle.running_rw_reader.specs.RwReaderShown.{reader_row, IsRwReaderPass, IsAlone, IsShut, IsTaken, WasTurnedAway, HasEnteredToRead, HasEnteredToWrite, HasReadAtOnce, HasWrittenAtOnce, HasSeenTaken, HasUnlocked, HasPlayed, HasPlayedUnlock};
 

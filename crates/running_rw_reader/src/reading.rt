@@ -21,13 +21,12 @@ impl<A: Allocator> ReadSteps<RwReaderScript, RwReaderPlace, Held<()>>
     ghost use Rattle.running_model.specs.Turns.{IsOver};
     ghost use Rattle.running_model.specs.Words.{IsNamed};
     ghost use Rattle.running_tallies.specs.Shown.{object_shown, index_shown};
-    ghost use Rattle.running_tallies.specs.RwReaderScript.{rw_reader_model};
+    ghost use Rattle.running_tallies.specs.RwReader.{rw_reader_model, read};
     ghost use Rattle.running_rw_hold.specs.RwReading.{MayLook, MayEnter, HasLookedAt, HasTriedToEnter};
     ghost use Rattle.model_rw_reader.specs.declared.RwReaderPlace.TheVariants as places;
     ghost use Rattle.running_passes.specs.Parts.{IsWhole};
     ghost use Rattle.running_model.specs.Stages.{id_of};
     ghost use Rattle.running_tallies.specs.Held.{read_holds, write_holds};
-    ghost use Rattle.running_tallies.specs.RwReaderRule.{read};
     ghost use Rattle.running_rw_reader.specs.RwReaderSteps.{word_of as held_word};
     ghost use Rattle.running_rw_reader.specs.RwReaderShown.{IsShut, EntersToRead};
 

@@ -15,7 +15,7 @@ impl<A: Allocator> RwLockReaderPreference<A> {
     ghost use Rattle.model_events.specs.declared.event.Word.TheVariants as words;
     ghost use Rattle.model_events.specs.declared.hold.HoldKind.TheVariants as kinds;
     ghost use Rattle.model_events.specs.declared.row.Intent.TheVariants as intents;
-    ghost use Rattle.running_tallies.specs.RwReaderScript.{rw_reader_model};
+    ghost use Rattle.running_tallies.specs.RwReader.{rw_reader_model, read, written};
     ghost use Rattle.running_passes.specs.Parts.{IsWhole};
     ghost use Rattle.running_passes.specs.Passes.{part_of};
     ghost use Rattle.running_model.specs.Plays.{Going, MayStep, Went};
@@ -24,7 +24,6 @@ impl<A: Allocator> RwLockReaderPreference<A> {
     ghost use Rattle.running_tallies.specs.Shown.{object_shown, index_shown};
     ghost use Rattle.running_rw_reader.specs.RwReaderParties.{has_hold, Unlocks};
     ghost use Rattle.running_rw_reader.specs.RwReaderSteps.{word_of};
-    ghost use Rattle.running_tallies.specs.RwReaderRule.{read, written};
     ghost use Rattle.running_rw_reader.specs.RwReaderShown.{IsRwReaderPass, reads_of, writes_of, HasLeftReading, HasLeftWriting};
 
     /// A load.

@@ -18,7 +18,7 @@ impl<A: Allocator> RwLockReaderPreference<A> {
     ghost use Rattle.model_events.specs.declared.event.Answer.TheVariants as answers;
     ghost use Rattle.model_events.specs.declared.hold.HoldKind.TheVariants as kinds;
     ghost use Rattle.model_events.specs.declared.row.Intent.TheVariants as intents;
-    ghost use Rattle.running_tallies.specs.RwReaderScript.{rw_reader_model};
+    ghost use Rattle.running_tallies.specs.RwReader.{rw_reader_model};
     ghost use Rattle.running_passes.specs.Answers.{MayAnswerAbort, HasWoken};
     ghost use Rattle.running_passes.specs.Passes.{sights_of};
     ghost use Rattle.running_model.specs.Plays.{Beginning, MayStep, Went};
@@ -162,7 +162,7 @@ impl<A: Allocator> Attempt<(), RwReaderScript, RwReaderPlace, u64, Held<()>> for
     ghost use Rattle.running_passes.specs.Passes.{object_of, sights_of};
     ghost use Rattle.running_model.specs.Counts.{HasMoved, WasRefusedAt};
     ghost use Rattle.running_model.specs.Tries.{MayTry, Tried, IsGranted, IsRefused};
-    ghost use Rattle.running_tallies.specs.RwReaderScript.{rw_reader_model};
+    ghost use Rattle.running_tallies.specs.RwReader.{rw_reader_model};
     ghost use Rattle.running_model.specs.Stages.{id_of};
     ghost use Rattle.running_rw_reader.specs.RwReaderShown.{IsTaken, EntersToWrite};
 

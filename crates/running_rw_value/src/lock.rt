@@ -10,7 +10,7 @@ ghost use Rattle.running_passes.specs.Views.{first_view};
 ghost use Rattle.running_model.specs.Slots.{no_parties};
 ghost use Rattle.running_model.specs.Passes.{played, parties_of};
 ghost use Rattle.running_model.specs.Counts.{WasRefused};
-ghost use Rattle.running_tallies.specs.RwWriterRule.{nothing_marked};
+ghost use Rattle.running_tallies.specs.RwWriter.{nothing_marked};
 ghost use Rattle.running_rw_hold.specs.RwShown.{IsReadHold, IsWriteHold, pass_of, borrow_of};
 ghost use Rattle.running_rw_writer.specs.contracts.pass.RwWriterPass.{the_row};
 ghost use Rattle.running_rw_writer.specs.RwWriterParties.{has_hold};

@@ -9,7 +9,7 @@ use Rattle.running_model.proofs.OfARun.{of_a_run}
 use Rattle.running_model.proofs.Steps.{told_so, found_there}
 use Rattle.running_model.proofs.Words.{hold_at}
 use Rattle.running_tallies.specs.HeldKeeps.{parts}
-use Rattle.running_tallies.specs.RwWriterTally.{marked_add_up, held_in}
+use Rattle.running_tallies.specs.RwWriter.{marked_add_up, held_in}
 use Rattle.model_rw_writer.specs.Table.{rw_writer_table}
 
 -- with what the others count

@@ -28,11 +28,9 @@ pub use Rattle.running_passes.specs.declared.pass.Pass.{Pass}
 pub use Rattle.running_passes.specs.declared.view.View.{View}
 pub use Rattle.running_rw_hold.specs.declared.hold.RwHold.{RwHold}
 pub use Rattle.running_rw_hold.specs.declared.hold.RwPass.{Ghosts}
-pub use Rattle.running_tallies.specs.Held.{read_holds, write_holds, Knows}
-pub use Rattle.running_tallies.specs.HeldTally.{same_nothing, tells_same_nothing}
-pub use Rattle.running_tallies.specs.RwReaderRule.{no_holds, Holds, both_holds}
-pub use Rattle.running_tallies.specs.RwWriterRule.{read, no_more_read, written, no_more_written, flagged, nothing_marked, both_marked, lowered, AreMarkedIn, IsMarkedOrHeld, marked_sees, marked_after, marked_needed}
-pub use Rattle.running_tallies.specs.RwWriterScript.{rw_writer_model, rw_writer_handed}
+pub use Rattle.running_tallies.specs.Held.{read_holds, write_holds, Knows, same_nothing, tells_same_nothing}
+pub use Rattle.running_tallies.specs.RwReader.{no_holds, Holds, both_holds}
+pub use Rattle.running_tallies.specs.RwWriter.{read, no_more_read, written, no_more_written, flagged, nothing_marked, both_marked, lowered, AreMarkedIn, IsMarkedOrHeld, marked_sees, marked_after, marked_needed, rw_writer_model, rw_writer_handed}
 pub use Rattle.running_tallies.specs.declared.rw_writer.MarkedHolds.{MarkedHolds}
 pub use Rattle.std.specs.Prelude.{◌≡◌, ◌⊎◌, ℕ, false, ◌==◌, if◌then◌else◌, Bool, List, [], ◌∷◌, Some, None, ◌≢◌, true, Option, ◌+◌, ◌-◌, ◌*◌, ◌%◌, ◌^◌, ◌<◌, ◌≤◌, slice_index, MatchBool, is_some}
 pub use mathlib.Core.Logic.{dite}

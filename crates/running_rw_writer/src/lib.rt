@@ -54,7 +54,7 @@ impl<A: Allocator> RwLockWriterPreference<A> {
     ghost use Rattle.running_model.specs.Counts.{WasRefused};
     ghost use Rattle.running_passes.specs.Views.{first_view};
     ghost use Rattle.running_rw_writer.specs.contracts.pass.RwWriterPass.{the_row};
-    ghost use Rattle.running_tallies.specs.RwWriterRule.{nothing_marked};
+    ghost use Rattle.running_tallies.specs.RwWriter.{nothing_marked};
     ghost use Rattle.running_rw_hold.specs.RwShown.{IsReadHold, IsWriteHold, pass_of, borrow_of};
     ghost use Rattle.running_rw_writer.specs.RwWriterSteps.{IsMarked, word_of};
     ghost use Rattle.running_rw_writer.specs.RwWriterShown.{IsRwWriterPass, IsAlone, IsShut, pass_in, known_by, part_in, sights_in, HasEnteredToRead, HasEnteredToWrite, HasReadAtOnce, HasWrittenAtOnce, HasSeenTaken, HasGivenUpWriting, HasUnlocked, WasTurnedAway, HasPlayed, HasPlayedGivingUp, HasPlayedUnlock};

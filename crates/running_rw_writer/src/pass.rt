@@ -36,7 +36,7 @@ impl RwWriterPass {
     ghost use Rattle.running_passes.specs.Parts.{half, IsAgain, IsSamePart, AddUp};
     ghost use Rattle.running_passes.specs.Views.{left_view, right_view, joined_view};
     ghost use Rattle.running_model.specs.Passes.{none_played, both_played};
-    ghost use Rattle.running_tallies.specs.RwWriterRule.{nothing_marked, both_marked};
+    ghost use Rattle.running_tallies.specs.RwWriter.{nothing_marked, both_marked};
     ghost use Rattle.running_rw_writer.specs.RwWriterShown.{IsRwWriterPass, known_by, part_in};
 
     /// Two passes of the same lock. What they counted adds up to what this one had counted, and both know what it knew; they weigh

@@ -22,12 +22,11 @@ impl<A: Allocator> ReadSteps<RwWriterScript, RwWriterPlace, MarkedHolds>
     ghost use Rattle.running_model.specs.Turns.{IsOver};
     ghost use Rattle.running_model.specs.Words.{IsNamed};
     ghost use Rattle.running_tallies.specs.Shown.{object_shown, index_shown};
-    ghost use Rattle.running_tallies.specs.RwWriterScript.{rw_writer_model};
+    ghost use Rattle.running_tallies.specs.RwWriter.{rw_writer_model, read};
     ghost use Rattle.running_rw_hold.specs.RwReading.{MayLook, MayEnter, HasLookedAt, HasTriedToEnter};
     ghost use Rattle.model_rw_writer.specs.declared.RwWriterPlace.TheVariants as places;
     ghost use Rattle.running_model.specs.Stages.{id_of};
     ghost use Rattle.running_tallies.specs.Held.{read_holds, write_holds};
-    ghost use Rattle.running_tallies.specs.RwWriterRule.{read};
     ghost use Rattle.running_rw_writer.specs.RwWriterSteps.{IsOnly, word_of as held_word};
     ghost use Rattle.running_rw_writer.specs.RwWriterShown.{IsOpen, IsShut, EntersToRead};
 

@@ -78,7 +78,7 @@ impl<A: Allocator> Semaphore<A> {
     ghost use Rattle.model_events.specs.declared.event.Call.TheVariants as calls;
     ghost use Rattle.model_events.specs.declared.event.Answer.TheVariants as answers;
     ghost use Rattle.model_events.specs.declared.row.Intent.TheVariants as intents;
-    ghost use Rattle.running_tallies.specs.SemaphoreScript.{semaphore_model};
+    ghost use Rattle.running_tallies.specs.Semaphore.{semaphore_model, first_permits};
     ghost use Rattle.running_passes.specs.Answers.{IfSuccess, IfInterrupted, IsSuccess, MayAnswerAbort, HasAsked, HasWoken};
     ghost use Rattle.running_passes.specs.Parts.{IsWhole};
     ghost use Rattle.running_passes.specs.Sights.{LooksOnceOrMisses};
@@ -89,7 +89,6 @@ impl<A: Allocator> Semaphore<A> {
     ghost use Rattle.running_model.specs.Passes.{played};
     ghost use Rattle.running_model.specs.Counts.{HasSeen, HasMissed, HasDone, WasRefused};
     ghost use Rattle.running_model.specs.Stages.{id_of};
-    ghost use Rattle.running_tallies.specs.SemaphoreRule.{first_permits};
     ghost use Rattle.running_tallies.specs.Shown.{object_shown, index_shown};
     ghost use Rattle.running_semaphore.specs.SemaphoreParties.{Wanting, MayWant, OnceWanting, HasLooked, HasOne, HasWanted};
     ghost use Rattle.running_semaphore.specs.SemaphoreSteps.{took, gave};
@@ -414,7 +413,7 @@ impl<A: Allocator> Attempt<u64, SemaphoreScript, SemaphorePlace, u64, Permits> f
     ghost use Rattle.running_model.specs.Counts.{HasMoved, WasRefusedAt};
     ghost use Rattle.running_model.specs.Tries.{MayTry, Tried, IsGranted, IsRefused};
     ghost use Rattle.running_model.specs.Stages.{id_of, key_of};
-    ghost use Rattle.running_tallies.specs.SemaphoreScript.{semaphore_model};
+    ghost use Rattle.running_tallies.specs.Semaphore.{semaphore_model};
     ghost use Rattle.running_semaphore.specs.SemaphoreShown.{IsEmpty, Takes, initial_of};
 
     ghost object = { λ s. id_of s.stage };

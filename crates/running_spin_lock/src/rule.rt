@@ -1,7 +1,6 @@
 //! The rule over all passes of a lock that guards a value.
 ghost use Rattle.running_model.specs.Sees.{sights_after};
-ghost use Rattle.running_tallies.specs.MutexRule.{AreHoldsIn, holds_after, holds_needed};
-ghost use Rattle.running_tallies.specs.MutexTally.{holds_go_on, holds_stay};
+ghost use Rattle.running_tallies.specs.Mutex.{AreHoldsIn, holds_after, holds_needed, holds_go_on, holds_stay};
 ghost use Rattle.running_spin_lock.specs.ValueRule.{LiesByHolds, CarriesByHolds};
 ghost use Rattle.running_spin_lock.specs.ValueMoves.{value_moves};
 

@@ -14,8 +14,7 @@ use Rattle.running_model.specs.Plays.{Coming, MayStep}
 use Rattle.running_model.specs.Sees.{sights_after}
 use Rattle.running_model.proofs.Steps.{told_so, found_there, by_zero}
 use Rattle.running_tallies.specs.declared.mutex.Holds.{Holds}
-use Rattle.running_tallies.specs.MutexRule.{both_holds, granted, holds_after, AreHoldsIn}
-use Rattle.running_tallies.specs.MutexTally.{IsForOne, word_is_held}
+use Rattle.running_tallies.specs.Mutex.{both_holds, granted, holds_after, AreHoldsIn, IsForOne, word_is_held}
 use Rattle.std.proofs.lemmas.Bool.Decides.{nat_tests}
 use Rattle.std.proofs.lemmas.Bool.{eqb-true, eqb-false}
 

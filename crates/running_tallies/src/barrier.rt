@@ -11,7 +11,7 @@ pub struct BarrierScript;
 impl Script<u32, BarrierPlace, u64> for BarrierScript {
     ghost use Rattle.std.specs.Prelude.{[], ◌∷◌, ◌%◌, ◌^◌};
     ghost use Rattle.model_events.specs.declared.event.Word.TheVariants as words;
-    ghost use Rattle.running_tallies.specs.BarrierScript.{barrier_model, barrier_lawful};
+    ghost use Rattle.running_tallies.specs.Barrier.{barrier_model, barrier_lawful};
 
     ghost model = { λ key. barrier_model (key % 2 ^ 32) };
 
@@ -53,8 +53,7 @@ pub struct Rounds {
 }
 
 impl Tally for Rounds {
-    ghost use Rattle.running_tallies.specs.BarrierRule.{no_rounds, both_rounds, known_rounds};
-    ghost use Rattle.running_tallies.specs.BarrierTally.{rounds_add_up};
+    ghost use Rattle.running_tallies.specs.Barrier.{no_rounds, both_rounds, known_rounds, rounds_add_up};
 
     ghost none = { no_rounds };
 
@@ -67,7 +66,7 @@ impl Tally for Rounds {
 
 /// The run alone says what all passes count and know.
 impl Rule<(), u32> for Rounds {
-    ghost use Rattle.running_tallies.specs.BarrierRule.{no_rounds};
+    ghost use Rattle.running_tallies.specs.Barrier.{no_rounds};
 
     ghost first = { λ _. no_rounds };
 
@@ -78,8 +77,7 @@ impl Rule<(), u32> for Rounds {
 /// of waiters.
 impl Counts<u32, u64> for Rounds {
     ghost use Rattle.std.specs.Prelude.{◌%◌, ◌^◌};
-    ghost use Rattle.running_tallies.specs.BarrierRule.{AreRoundsIn};
-    ghost use Rattle.running_tallies.specs.BarrierTally.{rounds_stay, no_rounds_first};
+    ghost use Rattle.running_tallies.specs.Barrier.{AreRoundsIn, rounds_stay, no_rounds_first};
 
     ghost follow = { λ key. AreRoundsIn (key % 2 ^ 32) };
 
@@ -91,8 +89,7 @@ impl Counts<u32, u64> for Rounds {
 impl CountsByActs<u32, BarrierScript, BarrierPlace, u64> for Rounds {
     ghost use Rattle.std.specs.Prelude.{◌%◌, ◌^◌};
     ghost use Rattle.running_model.specs.Sees.{sights_after};
-    ghost use Rattle.running_tallies.specs.BarrierRule.{rounds_after};
-    ghost use Rattle.running_tallies.specs.BarrierTally.{rounds_same, rounds_go_on, waiters_fit};
+    ghost use Rattle.running_tallies.specs.Barrier.{rounds_after, rounds_same, rounds_go_on, waiters_fit};
 
     ghost free = { λ _ _ _ _ _ _. tt };
 

@@ -19,7 +19,7 @@ pub trait Known {
 
 /// Nothing is kept under the lock that its holds know of.
 impl Known for () {
-    ghost use Rattle.running_tallies.specs.HeldTally.{same_nothing, tells_same_nothing};
+    ghost use Rattle.running_tallies.specs.Held.{same_nothing, tells_same_nothing};
 
     ghost same = { same_nothing };
 
@@ -40,8 +40,7 @@ pub enum Held<X> {
 
 impl<X: Known> Tally for Held<X> {
     ghost use Rattle.running_tallies.specs.declared.held.Held.TheVariants.{Free};
-    ghost use Rattle.running_tallies.specs.Held.{both_held};
-    ghost use Rattle.running_tallies.specs.HeldTally.{held_adds_up};
+    ghost use Rattle.running_tallies.specs.Held.{both_held, held_adds_up};
 
     ghost none = { Free };
 
@@ -54,7 +53,7 @@ impl<X: Known> Tally for Held<X> {
 
 /// The run alone says what all passes count.
 impl Rule<(), ()> for Held<()> {
-    ghost use Rattle.running_tallies.specs.RwReaderRule.{no_holds};
+    ghost use Rattle.running_tallies.specs.RwReader.{no_holds};
 
     ghost first = { λ _. no_holds };
 
@@ -65,8 +64,7 @@ impl Rule<(), ()> for Held<()> {
 impl Counts<(), u64> for Held<()> {
     ghost use Rattle.std.proofs.Common.{refl};
     ghost use Rattle.model_rw_reader.specs.Table.{rw_reader_table};
-    ghost use Rattle.running_tallies.specs.RwReaderRule.{AreHoldsIn};
-    ghost use Rattle.running_tallies.specs.RwReaderTally.{holds_stay};
+    ghost use Rattle.running_tallies.specs.RwReader.{AreHoldsIn, holds_stay};
 
     ghost follow = { λ _. AreHoldsIn rw_reader_table };
 
@@ -78,8 +76,7 @@ impl Counts<(), u64> for Held<()> {
 impl CountsByActs<(), RwReaderScript, RwReaderPlace, u64> for Held<()> {
     ghost use Rattle.std.proofs.Common.{refl};
     ghost use Rattle.running_model.specs.Sees.{sights_after};
-    ghost use Rattle.running_tallies.specs.RwReaderRule.{held_after, held_needed};
-    ghost use Rattle.running_tallies.specs.RwReaderTally.{holds_go_on};
+    ghost use Rattle.running_tallies.specs.RwReader.{held_after, held_needed, holds_go_on};
 
     ghost free = { λ _ _ _ _ _ _. tt };
 

@@ -10,7 +10,7 @@ pub struct MutexScript;
 impl Script<(), MutexPlace, u64> for MutexScript {
     ghost use Rattle.std.specs.Prelude.{[], ◌∷◌};
     ghost use Rattle.model_events.specs.declared.event.Word.TheVariants as words;
-    ghost use Rattle.running_tallies.specs.MutexScript.{mutex_model, mutex_lawful};
+    ghost use Rattle.running_tallies.specs.Mutex.{mutex_model, mutex_lawful};
 
     ghost model = { λ _. mutex_model };
 
@@ -27,7 +27,7 @@ impl Script<(), MutexPlace, u64> for MutexScript {
 pub trait ForOne<P>: Script<(), P, u64> {
     ghost use Rattle.std.specs.Prelude.{◌≡◌, [], ◌∷◌};
     ghost use Rattle.model_events.specs.declared.event.Word.TheVariants as words;
-    ghost use Rattle.running_tallies.specs.MutexTally.{IsForOne};
+    ghost use Rattle.running_tallies.specs.Mutex.{IsForOne};
 
     ghost one_word: { Self.Script.names ≡ words.State ∷ [] };
 
@@ -36,7 +36,7 @@ pub trait ForOne<P>: Script<(), P, u64> {
 
 impl ForOne<MutexPlace> for MutexScript {
     ghost use Rattle.std.proofs.Common.{refl};
-    ghost use Rattle.running_tallies.specs.MutexTally.{mutex_is_for_one};
+    ghost use Rattle.running_tallies.specs.Mutex.{mutex_is_for_one};
 
     ghost one_word = { refl };
 
@@ -55,8 +55,7 @@ pub struct Holds {
 }
 
 impl Tally for Holds {
-    ghost use Rattle.running_tallies.specs.MutexRule.{no_holds, both_holds};
-    ghost use Rattle.running_tallies.specs.MutexTally.{holds_add_up};
+    ghost use Rattle.running_tallies.specs.Mutex.{no_holds, both_holds, holds_add_up};
 
     ghost none = { no_holds };
 
@@ -69,7 +68,7 @@ impl Tally for Holds {
 
 /// The run alone says what all passes count.
 impl Rule<(), ()> for Holds {
-    ghost use Rattle.running_tallies.specs.MutexRule.{no_holds};
+    ghost use Rattle.running_tallies.specs.Mutex.{no_holds};
 
     ghost first = { λ _. no_holds };
 
@@ -79,8 +78,7 @@ impl Rule<(), ()> for Holds {
 /// All passes together have as many holds as stand after the run, and were granted as often as calls were in it.
 impl Counts<(), u64> for Holds {
     ghost use Rattle.model_mutex.specs.Table.{mutex_table};
-    ghost use Rattle.running_tallies.specs.MutexRule.{AreHoldsIn};
-    ghost use Rattle.running_tallies.specs.MutexTally.{holds_stay, no_holds_first};
+    ghost use Rattle.running_tallies.specs.Mutex.{AreHoldsIn, holds_stay, no_holds_first};
 
     ghost follow = { λ _. AreHoldsIn mutex_table };
 
@@ -92,9 +90,7 @@ impl Counts<(), u64> for Holds {
 impl CountsByActs<(), MutexScript, MutexPlace, u64> for Holds {
     ghost use Rattle.std.proofs.Common.{refl};
     ghost use Rattle.running_model.specs.Sees.{sights_after};
-    ghost use Rattle.running_tallies.specs.MutexRule.{holds_after, holds_needed};
-    ghost use Rattle.running_tallies.specs.MutexScript.{mutex_model};
-    ghost use Rattle.running_tallies.specs.MutexTally.{holds_go_on, mutex_is_for_one};
+    ghost use Rattle.running_tallies.specs.Mutex.{holds_after, holds_needed, mutex_model, holds_go_on, mutex_is_for_one};
 
     ghost free = { λ _ _ _ _ _ _. tt };
 

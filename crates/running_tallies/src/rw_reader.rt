@@ -10,7 +10,7 @@ pub struct RwReaderScript;
 impl Script<(), RwReaderPlace, u64> for RwReaderScript {
     ghost use Rattle.std.specs.Prelude.{[], ◌∷◌};
     ghost use Rattle.model_events.specs.declared.event.Word.TheVariants as words;
-    ghost use Rattle.running_tallies.specs.RwReaderScript.{rw_reader_model, rw_reader_lawful};
+    ghost use Rattle.running_tallies.specs.RwReader.{rw_reader_model, rw_reader_lawful};
 
     ghost model = { λ _. rw_reader_model };
 

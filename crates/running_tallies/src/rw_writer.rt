@@ -12,7 +12,7 @@ impl Script<(), RwWriterPlace, u64> for RwWriterScript {
     ghost use Rattle.std.specs.Prelude.{[], ◌∷◌};
     ghost use Rattle.std.proofs.Common.{refl};
     ghost use Rattle.model_events.specs.declared.event.Word.TheVariants as words;
-    ghost use Rattle.running_tallies.specs.RwWriterScript.{rw_writer_model, rw_writer_lawful, rw_writer_handed};
+    ghost use Rattle.running_tallies.specs.RwWriter.{rw_writer_model, rw_writer_lawful, rw_writer_handed};
 
     ghost model = { λ _. rw_writer_model };
 
@@ -41,8 +41,7 @@ pub struct MarkedHolds {
 }
 
 impl Tally for MarkedHolds {
-    ghost use Rattle.running_tallies.specs.RwWriterRule.{nothing_marked, both_marked};
-    ghost use Rattle.running_tallies.specs.RwWriterTally.{marked_add_up};
+    ghost use Rattle.running_tallies.specs.RwWriter.{nothing_marked, both_marked, marked_add_up};
 
     ghost none = { nothing_marked };
 
@@ -55,7 +54,7 @@ impl Tally for MarkedHolds {
 
 /// The run alone says what all passes count.
 impl Rule<(), ()> for MarkedHolds {
-    ghost use Rattle.running_tallies.specs.RwWriterRule.{nothing_marked};
+    ghost use Rattle.running_tallies.specs.RwWriter.{nothing_marked};
 
     ghost first = { λ _. nothing_marked };
 
@@ -65,8 +64,7 @@ impl Rule<(), ()> for MarkedHolds {
 /// All passes together have as many holds of each kind as stand after the run, and were granted as many as calls were in it. Where the mark
 /// is set, some pass has its flag up.
 impl Counts<(), u64> for MarkedHolds {
-    ghost use Rattle.running_tallies.specs.RwWriterRule.{AreMarkedIn};
-    ghost use Rattle.running_tallies.specs.RwWriterTally.{marks_stay, marks_open};
+    ghost use Rattle.running_tallies.specs.RwWriter.{AreMarkedIn, marks_stay, marks_open};
 
     ghost follow = { λ _. AreMarkedIn };
 
@@ -77,8 +75,7 @@ impl Counts<(), u64> for MarkedHolds {
 
 impl CountsByActs<(), RwWriterScript, RwWriterPlace, u64> for MarkedHolds {
     ghost use Rattle.std.proofs.Common.{refl};
-    ghost use Rattle.running_tallies.specs.RwWriterRule.{marked_sees, marked_after, marked_needed};
-    ghost use Rattle.running_tallies.specs.RwWriterTally.{marks_go_on};
+    ghost use Rattle.running_tallies.specs.RwWriter.{marked_sees, marked_after, marked_needed, marks_go_on};
 
     ghost free = { λ _ _ _ _ _ _. tt };
 

@@ -10,7 +10,7 @@ pub struct SemaphoreScript;
 impl Script<u64, SemaphorePlace, u64> for SemaphoreScript {
     ghost use Rattle.std.specs.Prelude.{[], ◌∷◌, ◌%◌, ◌^◌};
     ghost use Rattle.model_events.specs.declared.event.Word.TheVariants as words;
-    ghost use Rattle.running_tallies.specs.SemaphoreScript.{semaphore_model, semaphore_lawful};
+    ghost use Rattle.running_tallies.specs.Semaphore.{semaphore_model, semaphore_lawful};
 
     ghost model = { λ key. semaphore_model (key % 2 ^ 64) };
 
@@ -35,8 +35,7 @@ pub struct Permits {
 }
 
 impl Tally for Permits {
-    ghost use Rattle.running_tallies.specs.SemaphoreRule.{no_permits, both_permits};
-    ghost use Rattle.running_tallies.specs.SemaphoreTally.{permits_add_up};
+    ghost use Rattle.running_tallies.specs.Semaphore.{no_permits, both_permits, permits_add_up};
 
     ghost none = { no_permits };
 
@@ -50,7 +49,7 @@ impl Tally for Permits {
 /// The run alone says what all passes count.
 impl Rule<(), u64> for Permits {
     ghost use Rattle.std.specs.Prelude.{◌%◌, ◌^◌};
-    ghost use Rattle.running_tallies.specs.SemaphoreRule.{first_permits};
+    ghost use Rattle.running_tallies.specs.Semaphore.{first_permits};
 
     ghost first = { λ key. first_permits (key % 2 ^ 64) };
 
@@ -60,8 +59,7 @@ impl Rule<(), u64> for Permits {
 /// What all passes gave and took is what the acts of the run did. The key is the initial value.
 impl Counts<u64, u64> for Permits {
     ghost use Rattle.std.specs.Prelude.{◌%◌, ◌^◌};
-    ghost use Rattle.running_tallies.specs.SemaphoreRule.{ArePermitsOf};
-    ghost use Rattle.running_tallies.specs.SemaphoreTally.{permits_open, permits_stay};
+    ghost use Rattle.running_tallies.specs.Semaphore.{ArePermitsOf, permits_open, permits_stay};
 
     ghost follow = { λ key. ArePermitsOf (key % 2 ^ 64) };
 
@@ -74,8 +72,7 @@ impl CountsByActs<u64, SemaphoreScript, SemaphorePlace, u64> for Permits {
     ghost use Rattle.std.proofs.Common.{refl};
     ghost use Rattle.std.specs.Prelude.{◌%◌, ◌^◌};
     ghost use Rattle.running_model.specs.Sees.{sights_after};
-    ghost use Rattle.running_tallies.specs.SemaphoreRule.{permits_after};
-    ghost use Rattle.running_tallies.specs.SemaphoreTally.{permits_go_on};
+    ghost use Rattle.running_tallies.specs.Semaphore.{permits_after, permits_go_on};
 
     ghost free = { λ _ _ _ _ _ _. tt };
 

@@ -2,6 +2,7 @@
 use crate::{PlayedBarrier, PlayedMutex, PlayedRwReader, PlayedRwWriter, PlayedSemaphore};
 use running_model::{OfWord, Shown};
 use running_passes::{Watched, Word};
+use std::marker::Model;
 use std::sync::Wait;
 use std::time::Duration;
 
@@ -21,17 +22,42 @@ enum AnyWord<'t> {
     Barrier(Word<'t, u32, PlayedBarrier>),
 }
 
+/// Contracts see of which object it is, and which of its words.
+impl<'t> Model for WaitWord<'t> {
+    ghost use Rattle.std.specs.Prelude.{ℕ};
+    ghost use Rattle.atomic_table.specs.Seated.{TableId};
+    ghost use Rattle.running_tallies.specs.Shown.{which};
+    ghost use Rattle.running_tallies.specs.declared.wait_word.AnyWord.TheVariants as any;
+
+    ghost Value = { TableId × ℕ };
+
+    ghost view = { λ w. elim w.word [
+      | any.Mutex word ↦ which word
+      | any.ReaderLock word ↦ which word
+      | any.WriterLock word ↦ which word
+      | any.Semaphore word ↦ which word
+      | any.Barrier word ↦ which word
+    ] };
+}
+
+/// Does this with the word, of whichever object it is.
+macro_rules! with {
+    ($any:expr, $word:ident => $done:expr) => {
+        match $any {
+            AnyWord::Mutex($word) => $done,
+            AnyWord::ReaderLock($word) => $done,
+            AnyWord::WriterLock($word) => $done,
+            AnyWord::Semaphore($word) => $done,
+            AnyWord::Barrier($word) => $done,
+        }
+    };
+}
+
 impl WaitWord<'_> {
     /// The word as it is now. Another party may write it right after, so the answer promises nothing.
     #[inline(always)]
     pub fn load(&self) -> u64 {
-        match &self.word {
-            AnyWord::Mutex(word) => word.load(),
-            AnyWord::ReaderLock(word) => word.load(),
-            AnyWord::WriterLock(word) => word.load(),
-            AnyWord::Semaphore(word) => word.load(),
-            AnyWord::Barrier(word) => word.load(),
-        }
+        with!(&self.word, word => word.load())
     }
 }
 
@@ -42,43 +68,19 @@ impl Watched for WaitWord<'_> {
     }
 
     fn park<R: Wait>(&self, rt: &R, seen: u64) {
-        match &self.word {
-            AnyWord::Mutex(word) => word.park(rt, seen),
-            AnyWord::ReaderLock(word) => word.park(rt, seen),
-            AnyWord::WriterLock(word) => word.park(rt, seen),
-            AnyWord::Semaphore(word) => word.park(rt, seen),
-            AnyWord::Barrier(word) => word.park(rt, seen),
-        }
+        with!(&self.word, word => word.park(rt, seen))
     }
 
     fn park_timeout<R: Wait>(&self, rt: &R, seen: u64, most: Duration) {
-        match &self.word {
-            AnyWord::Mutex(word) => word.park_timeout(rt, seen, most),
-            AnyWord::ReaderLock(word) => word.park_timeout(rt, seen, most),
-            AnyWord::WriterLock(word) => word.park_timeout(rt, seen, most),
-            AnyWord::Semaphore(word) => word.park_timeout(rt, seen, most),
-            AnyWord::Barrier(word) => word.park_timeout(rt, seen, most),
-        }
+        with!(&self.word, word => word.park_timeout(rt, seen, most))
     }
 
     fn wake_one(&self) {
-        match &self.word {
-            AnyWord::Mutex(word) => word.wake_one(),
-            AnyWord::ReaderLock(word) => word.wake_one(),
-            AnyWord::WriterLock(word) => word.wake_one(),
-            AnyWord::Semaphore(word) => word.wake_one(),
-            AnyWord::Barrier(word) => word.wake_one(),
-        }
+        with!(&self.word, word => word.wake_one())
     }
 
     fn wake_all(&self) {
-        match &self.word {
-            AnyWord::Mutex(word) => word.wake_all(),
-            AnyWord::ReaderLock(word) => word.wake_all(),
-            AnyWord::WriterLock(word) => word.wake_all(),
-            AnyWord::Semaphore(word) => word.wake_all(),
-            AnyWord::Barrier(word) => word.wake_all(),
-        }
+        with!(&self.word, word => word.wake_all())
     }
 }
 

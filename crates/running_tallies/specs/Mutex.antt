@@ -1,9 +1,62 @@
--- What the passes of a lock with one holder at most count adds up, and follows the run.
-use Rattle.running_tallies.specs.Names.{refl, ℕ, ◌+◌, ◌≡◌, ◌≤◌, ap, sym, subst, ◌∙◌, List, [], ◌∷◌, length, Option, Some, arith, eqb-true, eqb-false, nat_tests, word_in, word_after, carried_out, Intent, mutex_is_lock, Model, Word, Call, Act, Event, HoldKind, Table, Hold, PendingCall, holds_of, u64_arithmetic, IsPast, StaysOnNoWord, GoesOnByActs, grants_by, same_grants, next_grants, quiet_holds, pairs_add_up, IsTally}
-use Rattle.model_events.proofs.Locks.{IsLock, IsLockIntent, IsFreeOrHeld, lock_word}
+-- What the passes of a lock with one holder at most count, the model that a mutex plays, and that the counts follow the run.
+use Rattle.running_tallies.specs.Names.{◌≡◌, ℕ, zero, ◌+◌, ◌≤◌, true, List, length, Word, Call, Act, Event, HoldKind, Table, holds_of, grants_in, u64_arithmetic, Model, IsPast, keeps_mutex, refl, ap, sym, subst, ◌∙◌, [], ◌∷◌, Option, Some, arith, eqb-true, eqb-false, nat_tests, word_in, word_after, carried_out, Intent, mutex_is_lock, Hold, PendingCall, StaysOnNoWord, GoesOnByActs, grants_by, same_grants, next_grants, quiet_holds, pairs_add_up, IsTally}
 use Rattle.running_tallies.specs.declared.mutex.Holds.{Holds}
-use Rattle.running_tallies.specs.MutexScript.{mutex_model}
-use Rattle.running_tallies.specs.MutexRule.{holds, no_holds, both_holds, holds_after, holds_needed, AreHoldsIn}
+use Rattle.model_mutex.specs.declared.MutexPlace.{MutexPlace}
+use Rattle.model_mutex.specs.Table.{mutex_table}
+use Rattle.model_mutex.specs.Law.{KeepsMutex}
+use Rattle.model_events.proofs.Locks.{IsLock, IsLockIntent, IsFreeOrHeld, lock_word}
+
+-- What a pass counts, and what all passes count together.
+
+abbrev pub holds : ℕ → ℕ → Holds
+holds n grants = record { holds = n; grants = grants }
+
+abbrev pub no_holds : Holds
+no_holds = holds 0 0
+
+abbrev pub both_holds : Holds → Holds → Holds
+both_holds t u = holds (t.holds + u.holds) (t.grants + u.grants)
+
+-- the hold is turned on, by a grant
+abbrev pub granted : Holds → Holds
+granted t = holds 1 (t.grants + 1)
+
+-- the hold is turned off
+abbrev pub released : Holds → Holds
+released t = holds 0 t.grants
+
+-- what an act makes of a tally: an exchange of the lock's word that is done, or a swap that found 0 there, grants, and a store releases
+abbrev pub holds_after : Act ℕ → Call ℕ → Holds → Holds
+holds_after (Act.Exchange Word.State from to found true) call t = granted t
+holds_after (Act.Swap Word.State zero put) call t = granted t
+holds_after (Act.Store Word.State put) call t = released t
+holds_after act call t = t
+
+-- and what it needs of it: only a hold that is on is released
+abbrev pub holds_needed : Act ℕ → Holds → Type 0
+holds_needed (Act.Store word put) t = t.holds ≡ 1
+holds_needed act t = Unit {0}
+
+-- so often was a call granted in the run
+abbrev pub AreGrantsIn : {V P : Type 0} → Table V P → List (Event V) → Holds → Type 0
+AreGrantsIn t past counts = counts.grants ≡ grants_in t HoldKind.Write past
+
+-- and so many holds stand after it, of which there is one at most
+pub record AreHoldsIn {P : Type 0} (t : Table ℕ P) (past : List (Event ℕ)) (counts : Holds) : Type 0 where
+  pub holds : counts.holds ≡ length (holds_of t past)
+  pub one : counts.holds ≤ 1
+  pub grants : AreGrantsIn t past counts
+
+-- The model that it plays.
+
+abbrev pub mutex_model : Model ℕ MutexPlace
+mutex_model = record { arithmetic = u64_arithmetic; table = mutex_table; law = KeepsMutex }
+
+-- every run keeps the mutex's law
+pub mutex_lawful : (parties : ℕ) (past : List (Event ℕ)) → IsPast u64_arithmetic mutex_table parties past → KeepsMutex past
+mutex_lawful parties past run = keeps_mutex u64_arithmetic parties past run
+
+-- What the passes count adds up, and follows the run.
 
 pub holds_add_up : IsTally no_holds both_holds (λ _. no_holds)
 holds_add_up = pairs_add_up holds (λ t. t.holds) (λ t. t.grants) (λ n m. refl) (λ n m. refl) (λ t. refl)
