@@ -1,5 +1,5 @@
 -- The lemmas of others that this crate cites.
-pub use Rattle.std.proofs.Common.{◌≡◌, true, Option, Some, None, arith, ◌∙◌, ℕ, false, refl, sym, subst, List, [], ◌∷◌, zero, ◌+◌, ◌<◌, ap, ◌++◌, length, take, get_or, slice_get, ◌-◌, ◌^◌, ◌==◌, min, Bool, cond, ◌≢◌, suc, ◌≤◌, Result, Ok, Err, IfOk, IfErr, ◌⊎◌, inl, inr, slice_set, ◌*◌, ◌&&◌, is_some, is_none, rules, vec_len, if◌then◌else◌}
+pub use Rattle.std.proofs.Common.{◌≡◌, true, Option, Some, None, arith, ◌∙◌, ℕ, false, refl, sym, subst, List, [], ◌∷◌, zero, ◌+◌, ◌<◌, ap, ◌++◌, length, take, get_or, slice_get, ◌-◌, ◌^◌, min, Bool, cond, ◌≢◌, suc, ◌≤◌, Result, Ok, Err, IfOk, IfErr, ◌⊎◌, inl, inr, slice_set, ◌*◌, ◌&&◌, is_some, is_none, vec_len, if◌then◌else◌}
 pub use Rattle.std.proofs.Math.ListN.{length-set}
 pub use Rattle.std.proofs.lemmas.Bool.{lt-ltb, eqb-true, eqb-false}
 pub use Rattle.std.proofs.lemmas.Bool.Decides.{eqb_tells, nat_tests}

@@ -9,7 +9,7 @@ pub use Rattle.model_barrier.specs.declared.BarrierPlace.{BarrierPlace}
 pub use Rattle.model_condvar.specs.Law.{CondvarCause, CondvarLaw, refused_by}
 pub use Rattle.model_condvar.specs.Table.{condvar_table, condvar_after, condvar_intent}
 pub use Rattle.model_condvar.specs.declared.CondvarPlace.{CondvarPlace}
-pub use Rattle.model_events.specs.Exports.{Arithmetic, IsValue, IsClosed, stage_of, is_locking, Move, begin_fault, InputValues, fault_at, next_stage, stage_after, move_of, go_fault, answer_fault, choose_fault, HasForm, seen_by, call_of, hold_of, failures_in, word_after, failures_by, event, PendingCall, latest_outcome, is_release, hold_or, Hold, same_word, hold_taken, hold_after, call_after, is_failure, word_in, within, carried_out, value_told, outcome_of, after, AtEveryPrefix, is_sight, last_of, sight_of, Table, word_at}
+pub use Rattle.model_events.specs.Exports.{Arithmetic, IsValue, IsClosed, stage_of, is_locking, Move, begin_fault, InputValues, fault_at, move_of, go_fault, answer_fault, choose_fault, HasForm, seen_by, call_of, hold_of, failures_in, word_after, failures_by, event, PendingCall, latest_outcome, is_release, hold_or, Hold, same_word, hold_taken, hold_after, call_after, is_failure, word_in, within, carried_out, value_told, outcome_of, after, AtEveryPrefix, is_sight, last_of, sight_of, Table, word_at}
 pub use Rattle.model_events.specs.declared.{WaitAction.WaitAction, event.Act.Act, event.Call.Call, event.Event.Event, event.Input.Input, event.Object.Object, event.StepFault.StepFault, event.Then.Then, event.Word.Word, hold.HoldKind.HoldKind, patience.Patience.Patience, row.After.After, row.Intent.Intent}
 pub use Rattle.model_lazy.specs.Table.{lazy_table, lazy_after}
 pub use Rattle.model_lazy.specs.declared.LazyPlace.{LazyPlace}

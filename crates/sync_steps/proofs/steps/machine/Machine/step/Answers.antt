@@ -1,4 +1,4 @@
-use Rattle.sync_steps.proofs.Names.{◌≡◌, ℕ, ◌<◌, length, arith, rules, Input, Configuration}
+use Rattle.sync_steps.proofs.Names.{◌≡◌, ℕ, ◌<◌, length, arith, Input, Configuration}
 use Rattle.sync_steps.proofs.Stands.{turns_step, turns_headline, turns_fault}
 use Rattle.sync_steps.proofs.steps.machine.Machine.step.Goals as goal
 
