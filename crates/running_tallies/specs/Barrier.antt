@@ -1,5 +1,5 @@
 -- What the passes of a barrier count and know, the model that it plays, and that this follows the run.
-use Rattle.running_tallies.specs.Names.{◌≡◌, ℕ, ◌+◌, ◌-◌, ◌*◌, ◌/◌, ◌%◌, ◌^◌, ◌<◌, ◌≤◌, ◌==◌, true, max, if◌then◌else◌, List, [], slice_index, Word, Call, Act, Event, arrivals_in, full_rounds, count_of, sum, arith, u64_arithmetic, Model, IsPast, BarrierPlace, barrier_table, keeps_barrier, ◌≢◌, suc, Bool, false, cond, ◌∷◌, refl, sym, ap, subst, ◌∙◌, add-mul, eqb-true, eqb-false, word_in, carried_out, barrier_intent, IsTally, is_arrival, epoch_of, CountsArrivals, IsOnNoWord, on_no_word, StaysOnNoWord, SameOnNoWord, GoesOnByActs, nat_tests}
+use Rattle.running_tallies.specs.Names.{◌≡◌, ℕ, ◌+◌, ◌-◌, ◌*◌, ◌/◌, ◌%◌, ◌^◌, ◌<◌, ◌≤◌, ◌==◌, true, max, if◌then◌else◌, List, [], slice_index, Word, Call, Act, Event, sum, arith, u64_arithmetic, Model, IsPast, ◌≢◌, suc, Bool, false, cond, ◌∷◌, refl, sym, ap, subst, ◌∙◌, add-mul, eqb-true, eqb-false, word_in, carried_out, IsTally, IsOnNoWord, on_no_word, StaysOnNoWord, SameOnNoWord, GoesOnByActs, nat_tests}
 use Rattle.running_tallies.specs.declared.barrier.Rounds.{Rounds}
 use Rattle.running_tallies.specs.Counts.{one_more, both_counts, counts_swap, counts_group}
 use Rattle.model_barrier.specs.Law.{KeepsBarrier}
@@ -9,6 +9,10 @@ use Rattle.std.proofs.lemmas.Nat.{div-add-mod', div-mul-add, mod-mul-add, mod_be
 use mathlib.Core.Logic.{dite}
 use native.Mathlib.Decide.{ℕ_discrete}
 use Rattle.running_tallies.specs.CountLaws.{more_in_both, more_here, more_elsewhere}
+use Rattle.model_barrier.proofs.Laws.{keeps_barrier}
+use Rattle.model_barrier.specs.Rounds.{arrivals_in, full_rounds, count_of, is_arrival, epoch_of, CountsArrivals}
+use Rattle.model_barrier.specs.Table.{barrier_table, barrier_intent}
+use Rattle.model_barrier.specs.declared.BarrierPlace.{BarrierPlace}
 
 -- What a pass counts, and what all passes count together.
 

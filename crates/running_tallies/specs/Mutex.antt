@@ -1,10 +1,11 @@
 -- What the passes of a lock with one holder at most count, the model that a mutex plays, and that the counts follow the run.
-use Rattle.running_tallies.specs.Names.{◌≡◌, ℕ, zero, ◌+◌, ◌≤◌, true, List, length, Word, Call, Act, Event, HoldKind, Table, holds_of, grants_in, u64_arithmetic, Model, IsPast, keeps_mutex, refl, ap, sym, subst, ◌∙◌, [], ◌∷◌, Option, Some, arith, eqb-true, eqb-false, nat_tests, word_in, word_after, carried_out, Intent, mutex_is_lock, Hold, PendingCall, StaysOnNoWord, GoesOnByActs, grants_by, same_grants, next_grants, quiet_holds, pairs_add_up, IsTally}
+use Rattle.running_tallies.specs.Names.{◌≡◌, ℕ, zero, ◌+◌, ◌≤◌, true, List, length, Word, Call, Act, Event, HoldKind, Table, holds_of, grants_in, u64_arithmetic, Model, IsPast, refl, ap, sym, subst, ◌∙◌, [], ◌∷◌, Option, Some, arith, eqb-true, eqb-false, nat_tests, word_in, word_after, carried_out, Intent, Hold, PendingCall, StaysOnNoWord, GoesOnByActs, grants_by, same_grants, next_grants, quiet_holds, pairs_add_up, IsTally}
 use Rattle.running_tallies.specs.declared.mutex.Holds.{Holds}
 use Rattle.model_mutex.specs.declared.MutexPlace.{MutexPlace}
 use Rattle.model_mutex.specs.Table.{mutex_table}
 use Rattle.model_mutex.specs.Law.{KeepsMutex}
 use Rattle.model_events.proofs.Locks.{IsLock, IsLockIntent, IsFreeOrHeld, lock_word}
+use Rattle.model_mutex.proofs.Laws.{keeps_mutex, mutex_is_lock}
 
 -- What a pass counts, and what all passes count together.
 

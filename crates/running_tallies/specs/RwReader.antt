@@ -1,11 +1,14 @@
 -- What the passes of a reader-preferring lock count, the model that it plays, and that the counts follow the run.
-use Rattle.running_tallies.specs.Names.{◌≡◌, ℕ, ◌-◌, ◌^◌, ◌<◌, ◌==◌, true, if◌then◌else◌, List, Act, Call, Event, Table, holds_of, reads_in, writes_in, u64_arithmetic, Model, IsPast, RwReaderPlace, rw_reader_table, KeepsRwReader, sym, subst, ◌∙◌, ◌∷◌, Option, arith, eqb-true, word_in, word_after, carried_out, rw_reader_intent, CountsHolds, Word, HoldKind, Hold, PendingCall, quiet_holds, StaysOnNoWord, GoesOnByActs, nat_tests, eqb-false}
+use Rattle.running_tallies.specs.Names.{◌≡◌, ℕ, ◌-◌, ◌^◌, ◌<◌, ◌==◌, true, if◌then◌else◌, List, Act, Call, Event, Table, holds_of, reads_in, writes_in, u64_arithmetic, Model, IsPast, sym, subst, ◌∙◌, ◌∷◌, Option, arith, eqb-true, word_in, word_after, carried_out, Word, HoldKind, Hold, PendingCall, quiet_holds, StaysOnNoWord, GoesOnByActs, nat_tests, eqb-false}
 use Rattle.running_tallies.specs.declared.held.Held.{Held}
 use Rattle.running_tallies.specs.declared.held.Held.TheVariants.{Free, Writing}
 use Rattle.running_tallies.specs.Held.{both_held, read_holds, write_holds, reader_in, reader_out, Locks, same_nothing}
 use Rattle.model_rw_reader.proofs.AnswerLaws.{keeps_rw_reader}
 use Rattle.model_events.proofs.Parties.{at_place}
 use Rattle.model_rw_reader.proofs.Laws.{AtRwReader, rw_reader_kept}
+use Rattle.model_rw_reader.specs.Law.{KeepsRwReader, CountsHolds}
+use Rattle.model_rw_reader.specs.Table.{rw_reader_table, rw_reader_intent}
+use Rattle.model_rw_reader.specs.declared.RwReaderPlace.{RwReaderPlace}
 
 -- What a pass counts, and what all passes count together.
 

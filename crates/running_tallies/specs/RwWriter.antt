@@ -1,5 +1,5 @@
 -- What the passes of a writer-preferring lock count, the model that it plays, and that the counts follow the run.
-use Rattle.running_tallies.specs.Names.{◌≡◌, ℕ, ◌+◌, ◌-◌, ◌*◌, ◌^◌, ◌<◌, ◌≤◌, ◌==◌, true, false, if◌then◌else◌, List, Act, Call, Event, Word, HoldKind, grants_in, has_mark, is_marked_after, rw_writer_table, u64_arithmetic, Model, IsPast, rw_writer_woken, KeepsRwWriter, ◌%◌, Bool, refl, sym, subst, ◌∙◌, [], ◌∷◌, Option, Some, arith, eqb-true, eqb-false, nat_tests, word_in, word_after, hold_of, carried_out, Intent, Hold, PendingCall, call_of, holds_of, reads_in, writes_in, IsTally, StaysOnNoWord, GoesOnByActs, grants_by, same_grants, next_grants}
+use Rattle.running_tallies.specs.Names.{◌≡◌, ℕ, ◌+◌, ◌-◌, ◌*◌, ◌^◌, ◌<◌, ◌≤◌, ◌==◌, true, false, if◌then◌else◌, List, Act, Call, Event, Word, HoldKind, grants_in, u64_arithmetic, Model, IsPast, ◌%◌, Bool, refl, sym, subst, ◌∙◌, [], ◌∷◌, Option, Some, arith, eqb-true, eqb-false, nat_tests, word_in, word_after, hold_of, carried_out, Intent, Hold, PendingCall, call_of, holds_of, reads_in, writes_in, IsTally, StaysOnNoWord, GoesOnByActs, grants_by, same_grants, next_grants}
 use Rattle.running_passes.specs.declared.part.Sights.{Sights}
 use Rattle.running_passes.specs.Sights.{seen, seen_instead, stale}
 use Rattle.running_tallies.specs.declared.held.Held.TheVariants.{Writing}
@@ -9,9 +9,11 @@ use Rattle.running_tallies.specs.RwReader.{Holds, no_holds, both_holds, AreHolds
 use Rattle.model_events.specs.declared.event.Wake.{Wake}
 use Rattle.model_rw_writer.specs.declared.RwWriterPlace.{RwWriterPlace}
 use Rattle.model_rw_writer.proofs.Causes.{keeps_rw_writer}
-use Rattle.model_rw_writer.specs.Law.{CountsHolds}
+use Rattle.model_rw_writer.specs.Law.{CountsHolds, has_mark, KeepsRwWriter}
 use Rattle.model_rw_writer.proofs.WordLaws.{IsExchange, IsWriterIntent}
 use Rattle.model_rw_writer.proofs.PlaceLaws.{writer_intent, here}
+use Rattle.model_rw_writer.specs.Marks.{is_marked_after}
+use Rattle.model_rw_writer.specs.Table.{rw_writer_table, rw_writer_woken}
 
 -- What a pass counts, and what all passes count together.
 

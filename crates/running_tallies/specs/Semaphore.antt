@@ -1,9 +1,11 @@
 -- What the passes of a semaphore count, the model that it plays, and that the counts follow the run.
-use Rattle.running_tallies.specs.Names.{◌≡◌, ℕ, ◌+◌, ◌-◌, ◌%◌, ◌^◌, true, List, Word, Call, Act, Event, permits_given, permits_taken, semaphore_gives, permits_posted, arith, u64_arithmetic, Model, IsPast, KeepsSemaphore, pairs_add_up, IsTally, StaysOnNoWord, GoesOnByActs, refl, [], nat_tests, eqb-true, eqb-false}
+use Rattle.running_tallies.specs.Names.{◌≡◌, ℕ, ◌+◌, ◌-◌, ◌%◌, ◌^◌, true, List, Word, Call, Act, Event, arith, u64_arithmetic, Model, IsPast, pairs_add_up, IsTally, StaysOnNoWord, GoesOnByActs, refl, [], nat_tests, eqb-true, eqb-false}
 use Rattle.running_tallies.specs.declared.semaphore.Permits.{Permits}
 use Rattle.model_semaphore.specs.declared.SemaphorePlace.{SemaphorePlace}
 use Rattle.model_semaphore.specs.Table.{semaphore_table}
 use Rattle.model_semaphore.proofs.Laws.{keeps_semaphore}
+use Rattle.model_semaphore.specs.Law.{semaphore_gives, permits_posted, KeepsSemaphore}
+use Rattle.model_semaphore.specs.Permits.{permits_given, permits_taken}
 
 -- What a pass counts, and what all passes count together.
 
