@@ -1,5 +1,5 @@
 -- The words of an object are printed in two pieces.
-use Rattle.text_trace.proofs.Names.{arith, nat_tests, eqb-true, eqb-false, ◌≡◌, ◌∙◌, ap, ℕ, List, ◌++◌, Result, Ok, Err, OnOk, append_assoc, decimal, Event, Object, Word, Arithmetic, word_in, further_words, Numerals, words_text}
+use Rattle.text_trace.proofs.Names.{arith, nat_tests, eqb-true, eqb-false, ◌≡◌, ℕ, List, ◌++◌, Result, OnOk, append_assoc, decimal, Event, Object, Word, Arithmetic, word_in, further_words, Numerals, words_text}
 
 module _ {T : Type 0} (z : Arithmetic T) (numerals : Numerals T) where
   pub words_printed :

@@ -1,6 +1,5 @@
 -- Of equal events in a row that leave all as it is, each reads as the first.
-use Rattle.text_trace.proofs.Names.{arith, nat_tests, eqb-true, eqb-false, ◌≡◌, ℕ, zero, suc, ◌+◌, ◌==◌, ◌&&◌, not, Bool, true, false, cond, List, ◌∷◌, Option, refl, ap, ◌∙◌, decimal, Act, Event, Object, Word, HoldKind, Arithmetic, PendingCall, Hold, same_word, word_after, is_release, hold_taken, with_hold, without, call_of, holds_of, hold_among, hold_of, is_quiet, table_of, word_in, Header, Step, after_times, Numerals, Texts, act_words, standing_words, words_text, with_holder, holders, or_dash, cells_at}
-use std.Path.{fun_ext}
+use Rattle.text_trace.proofs.Names.{arith, nat_tests, eqb-true, eqb-false, ◌≡◌, ℕ, zero, suc, ◌+◌, true, cond, List, ◌∷◌, Option, refl, ◌∙◌, decimal, Act, Event, Word, HoldKind, Arithmetic, PendingCall, Hold, word_after, is_release, hold_taken, with_hold, without, is_quiet, Header, Step, after_times, Numerals, Texts, act_words, standing_words, words_text, or_dash, cells_at}
 use Rattle.model_events.specs.Tables.{Table}
 
 module _ {T : Type 0} (z : Arithmetic T) (numerals : Numerals T) where

@@ -7,7 +7,7 @@ use Rattle.sync_play.proofs.TextLaws.{after_both}
 use Rattle.text_trace.specs.declared.trace.Rows.{Rows}
 use Rattle.text_trace.proofs.QuietLaws.{cells_again, cells_after}
 use Rattle.text_trace.proofs.RowLaws.{trimmed_folded}
-use Rattle.text_trace.specs.Trace.{rows_with, cells_along, HasAdded, RowsAndFault, rows_of_walk, rows_of_opened, rows_of, AreRowsOf, HasPlayed, Written, typed_trace}
+use Rattle.text_trace.specs.Trace.{rows_with, cells_along, HasAdded, RowsAndFault, rows_of_walk, rows_of_opened, rows_of, AreRowsOf, Written, typed_trace}
 
 module _ {T : Type 0} (z : Arithmetic T) (numerals : Numerals T) where
   abbrev Ev : Type 0

@@ -1,4 +1,4 @@
-use Rattle.text_trace.proofs.Names.{◌≡◌, ◌+◌, ◌<◌, ◌≤◌, ◌∙◌, sym, ap, [], ◌∷◌, ◌++◌, length, Option, ℕ, arith, rules, length-append}
+use Rattle.text_trace.proofs.Names.{◌≡◌, ◌+◌, ◌<◌, ◌≤◌, ◌∙◌, sym, ap, [], ◌∷◌, length, Option, ℕ, arith, rules, length-append}
 use Rattle.text_trace.specs.Rows.{entries, trimmed_to}
 use Rattle.text_trace.proofs.RowLaws.{trims_short, trims}
 use Rattle.text_trace.proofs.rows.trim.Goals as goal
