@@ -6,7 +6,7 @@ pub use Rattle.std.proofs.lemmas.Bool.Decides.{eqb_tells, nat_tests}
 pub use Rattle.std.proofs.lemmas.List.{take_more, length-replicate, set-get_or, take_all}
 pub use Rattle.std.proofs.lemmas.Option.{slice_get-get_or}
 pub use Rattle.model_events.proofs.Exports.{call_of_same, call_of_other, hold_of_same, hold_of_other, lacked_word, carried_is_step}
-pub use Rattle.sync_steps.specs.Names.{Event, Input, Object, Word, Arithmetic, same_word, AtEveryPrefix, mutex_table, spin_table, semaphore_table, semaphore_opening, barrier_table, rw_reader_table, rw_writer_table, condvar_table, once_table, lazy_table, atomic_table, atomic_opening, replicate, Act, Then, Intent, word_after, is_failure, failures_by, event, carried_out, value_told, word_at, WaitAction, Call, StepFault, HoldKind, within, PendingCall, call_after, hold_after, latest_outcome, stage_of, move_of, fault_at, go_fault, answer_fault, choose_fault, is_locking, HasForm, after, ForSome, call_of, hold_of, failures_in, InputValues, Table, hold_taken, begin_fault, After, outcome_of}
+pub use Rattle.sync_steps.specs.Names.{Event, Input, Object, Word, Arithmetic, same_word, AtEveryPrefix, replicate, Act, Then, Intent, word_after, is_failure, failures_by, event, carried_out, value_told, word_at, WaitAction, Call, StepFault, HoldKind, within, PendingCall, call_after, hold_after, latest_outcome, stage_of, move_of, fault_at, go_fault, answer_fault, choose_fault, is_locking, HasForm, after, ForSome, call_of, hold_of, failures_in, InputValues, Table, hold_taken, begin_fault, After, outcome_of}
 pub use Rattle.sync_steps.specs.Objects.{has_word, place_of, table_of, IsObject, has_call, wants_hold}
 pub use Rattle.sync_steps.specs.Runs.{word_in, IsNext, IsPast, IsRun, fault_of}
 pub use Rattle.sync_steps.specs.declared.steps.place.Doing.{Doing}
