@@ -1,5 +1,6 @@
 -- What a wait closure is told is what its call saw last of the word that it watches.
-use Rattle.sync_steps.specs.Names.{MatchOption, Act, Call, Event, Object, Then, Word, HoldKind, Patience, After, Arithmetic, stage_of, seen_by, PendingCall, call_of, hold_of, word_in, event, carried_out, value_told, sight_of, is_sight, last_of, Table, RwWriterPlace, rw_writer_table, rw_writer_intent, rw_writer_after, last_look, CondvarPlace, condvar_table, condvar_intent, condvar_after, refused_by}
+use Rattle.sync_steps.specs.Names.{MatchOption, Act, Call, Event, Object, Then, Word, HoldKind, Patience, After, Arithmetic, stage_of, seen_by, PendingCall, call_of, hold_of, word_in, event, carried_out, value_told, sight_of, is_sight, last_of, Table}
+use Rattle.sync_steps.specs.Objects.{RwWriterPlace, rw_writer_table, rw_writer_intent, rw_writer_after, last_look, CondvarPlace, condvar_table, condvar_intent, condvar_after, refused_by}
 use Rattle.sync_steps.proofs.Names.{◌≡◌, refl, sym, ◌∙◌, ap, subst, ℕ, true, cond, is_some, List, ◌∷◌, Option, Some, None, ◌⊎◌, inl, inr, arith, nat_tests, eqb-true, eqb-false, Place, table_of, IsPast, place_in, watched_word, SawLast}
 use Rattle.model_events.specs.Asks.{Refusing, TellsRefusal, sight_at}
 use Rattle.model_events.specs.Runs as runs

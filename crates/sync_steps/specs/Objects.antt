@@ -1,15 +1,37 @@
 -- What each object is: its places and its table of steps, its law, what it may be opened with, and the words and the calls that it has.
-use Rattle.sync_steps.specs.Names.{ℕ, List, ◌<◌, ◌^◌, Bool, true, false, Call, Event, Object, Word, Arithmetic, IsValue, IsClosed, Table, MutexPlace, mutex_table, SpinPlace, spin_table, SemaphorePlace, semaphore_table, BarrierPlace, barrier_table, RwReaderPlace, rw_reader_table, RwWriterPlace, rw_writer_table, CondvarPlace, condvar_table, OncePlace, once_table, LazyPlace, lazy_table, AtomicPlace, atomic_table, CondvarCause, CondvarLaw}
+use Rattle.sync_steps.specs.Names.{ℕ, List, ◌<◌, ◌^◌, Bool, true, false, Call, Event, Object, Word, Arithmetic, IsValue, IsClosed, Table}
 use Rattle.model_events.specs.Laws.{Keeps}
 use Rattle.model_events.specs.declared.event.Wake.{Wake}
+pub use Rattle.model_mutex.specs.declared.MutexPlace.{MutexPlace}
+pub use Rattle.model_mutex.specs.Table.{mutex_table, is_free}
 use Rattle.model_mutex.specs.Law.{MutexCause, MutexLaw}
+pub use Rattle.model_spin.specs.declared.SpinPlace.{SpinPlace}
+pub use Rattle.model_spin.specs.Table.{spin_table, spin_after}
 use Rattle.model_spin.specs.Law.{SpinCause, SpinLaw}
+pub use Rattle.model_semaphore.specs.declared.SemaphorePlace.{SemaphorePlace}
+pub use Rattle.model_semaphore.specs.Table.{semaphore_table, semaphore_opening}
 use Rattle.model_semaphore.specs.Law.{SemaphoreCause, SemaphoreLaw}
+pub use Rattle.model_barrier.specs.declared.BarrierPlace.{BarrierPlace}
+pub use Rattle.model_barrier.specs.Table.{barrier_table}
+pub use Rattle.model_barrier.specs.Rounds.{epoch_of}
 use Rattle.model_barrier.specs.Law.{BarrierCause, BarrierLaw}
+pub use Rattle.model_rw_reader.specs.declared.RwReaderPlace.{RwReaderPlace}
+pub use Rattle.model_rw_reader.specs.Table.{rw_reader_table, lets_readers_in as lets_readers_in_free}
 use Rattle.model_rw_reader.specs.Law.{RwReaderCause, RwReaderLaw}
+pub use Rattle.model_rw_writer.specs.declared.RwWriterPlace.{RwWriterPlace}
+pub use Rattle.model_rw_writer.specs.Table.{rw_writer_table, lets_readers_in, lets_writer_in, lets_mark, rw_writer_after, rw_writer_intent, last_look}
 use Rattle.model_rw_writer.specs.Law.{RwWriterCause, RwWriterLaw}
+pub use Rattle.model_condvar.specs.declared.CondvarPlace.{CondvarPlace}
+pub use Rattle.model_condvar.specs.Table.{condvar_table, condvar_after, condvar_intent}
+pub use Rattle.model_condvar.specs.Law.{CondvarCause, CondvarLaw, refused_by}
+pub use Rattle.model_once.specs.declared.OncePlace.{OncePlace}
+pub use Rattle.model_once.specs.Table.{once_table, once_after}
 use Rattle.model_once.specs.Law.{OnceCause, OnceLaw}
+pub use Rattle.model_lazy.specs.declared.LazyPlace.{LazyPlace}
+pub use Rattle.model_lazy.specs.Table.{lazy_table, lazy_after}
 use Rattle.model_lazy.specs.Law.{LazyCause, LazyLaw}
+pub use Rattle.model_atomic.specs.declared.AtomicPlace.{AtomicPlace}
+pub use Rattle.model_atomic.specs.Table.{atomic_intent, atomic_after, atomic_chosen, atomic_table, atomic_opening}
 use Rattle.model_atomic.specs.Law.{AtomicCause, AtomicLaw}
 
 abbrev pub place_of : {T : Type 0} → Object T → Type 0

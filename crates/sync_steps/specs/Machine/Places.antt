@@ -1,10 +1,10 @@
 -- Where a machine's parties are: the code's places, as places of the object's table, and how often a step at each spins.
-use Rattle.sync_steps.specs.Names.{◌≡◌, ℕ, Bool, List, [], ◌∷◌, Option, Some, None, WaitAction, Call, Event, Object, Then, Word, HoldKind, After, Intent, Arithmetic, PendingCall, call_of, latest_outcome, stage_of, seen_by, within, is_sight, last_of, Table, MutexPlace, mutex_table, SpinPlace, spin_table, SemaphorePlace, semaphore_table, BarrierPlace, barrier_table, RwReaderPlace, rw_reader_table, RwWriterPlace, rw_writer_table, CondvarPlace, condvar_table, OncePlace, once_table, LazyPlace, lazy_table, AtomicPlace, atomic_intent, atomic_after, atomic_chosen, atomic_table, ◌+◌, ◌-◌, ◌^◌, ◌==◌, min, unwrap_or, Patience, is_free, epoch_of, lets_readers_in_free, lets_readers_in, lets_writer_in, lets_mark, if◌then◌else◌}
+use Rattle.sync_steps.specs.Names.{◌≡◌, ℕ, Bool, List, [], ◌∷◌, Option, Some, None, WaitAction, Call, Event, Object, Then, Word, HoldKind, After, Intent, Arithmetic, PendingCall, call_of, latest_outcome, stage_of, seen_by, within, is_sight, last_of, Table, ◌+◌, ◌-◌, ◌^◌, ◌==◌, min, unwrap_or, Patience, if◌then◌else◌}
 use Rattle.sync_steps.specs.declared.steps.place.Closure.{Closure}
 use Rattle.sync_steps.specs.declared.steps.place.Doing.{Doing}
 use Rattle.sync_steps.specs.declared.steps.place.Party.{Party}
 use Rattle.sync_steps.specs.declared.steps.place.Place.{Place}
-use Rattle.sync_steps.specs.Objects.{place_of, table_of}
+use Rattle.sync_steps.specs.Objects.{place_of, table_of, MutexPlace, mutex_table, SpinPlace, spin_table, SemaphorePlace, semaphore_table, BarrierPlace, barrier_table, RwReaderPlace, rw_reader_table, RwWriterPlace, rw_writer_table, CondvarPlace, condvar_table, OncePlace, once_table, LazyPlace, lazy_table, AtomicPlace, atomic_intent, atomic_after, atomic_chosen, atomic_table, is_free, epoch_of, lets_readers_in_free, lets_readers_in, lets_writer_in, lets_mark}
 
 -- the code's place for a place of the object's table
 abbrev pub place_in : {T : Type 0} (o : Object T) → place_of o → Place T
@@ -186,7 +186,7 @@ spins_at (Place.RwWriter place) told = rw_writer_spins place (unwrap_or told 0)
 spins_at (Place.Condvar place) told = condvar_spins place told
 spins_at (Place.Once place) told = once_spins place (unwrap_or told 0)
 spins_at (Place.Lazy place v) told = lazy_spins place (unwrap_or told 0)
-spins_at (Place.Atomic place) told = 0
+spins_at other told = 0
 
 -- The place after so many more spins; those of a spin lock and a once count none.
 
@@ -227,12 +227,9 @@ condvar_spun n other = other
 
 abbrev pub spun_at : {T : Type 0} → ℕ → Place T → Place T
 spun_at n (Place.Mutex place) = Place.Mutex (mutex_spun n place)
-spun_at n (Place.Spin place) = Place.Spin place
 spun_at n (Place.Semaphore place) = Place.Semaphore (semaphore_spun n place)
 spun_at n (Place.Barrier place) = Place.Barrier (barrier_spun n place)
 spun_at n (Place.RwReader place) = Place.RwReader (rw_reader_spun n place)
 spun_at n (Place.RwWriter place) = Place.RwWriter (rw_writer_spun n place)
 spun_at n (Place.Condvar place) = Place.Condvar (condvar_spun n place)
-spun_at n (Place.Once place) = Place.Once place
-spun_at n (Place.Lazy place v) = Place.Lazy place v
-spun_at n (Place.Atomic place) = Place.Atomic place
+spun_at n other = other
