@@ -108,11 +108,8 @@ of_idle o words =
     if counts_steps words then codes "the call ended before these steps, or none was under way: `run` goes to its end"
     else codes "the party has no call under way, and begins one by its name: " ++ listed (calls_of o)
 
-abbrev pub has_start_wait : Object Unit → Bool
-has_start_wait o = is_some (named (codes "start_wait") (calls_of o))
-
 abbrev pub means_to_begin : Object Unit → List (List ℕ) → Bool
-means_to_begin o (party ∷ name ∷ words) = (bytes_eq name (codes "wait")) && has_start_wait o
+means_to_begin o (party ∷ name ∷ words) = (bytes_eq name (codes "wait")) && is_some (named (codes "start_wait") (calls_of o))
 means_to_begin o other = false
 
 abbrev pub of_early_answer : Object Unit → List (List ℕ) → List ℕ

@@ -168,13 +168,6 @@ fn of_idle(out: &mut Vec<u8>, object: Object<()>, line: &[u8]) -> Result<(), All
     }
 }
 
-/// Whether it has a call that is written `start_wait`.
-fn has_start_wait(object: Object<()>) -> bool
-    ensures { result ≡ meaning.has_start_wait object }
-{
-    named(b"start_wait", calls_of(&object)).is_some()
-}
-
 /// Whether a line answers `wait` at an object that has a call of this name in Rust, which a text begins by another.
 fn means_to_begin(object: Object<()>, line: &[u8]) -> bool
     ensures { result ≡ meaning.means_to_begin object (words_of line.now) }
@@ -183,7 +176,7 @@ fn means_to_begin(object: Object<()>, line: &[u8]) -> bool
         return false;
     };
     match next_word(rest) {
-        Some((name, _)) => is(name, b"wait") && has_start_wait(object),
+        Some((name, _)) => is(name, b"wait") && named(b"start_wait", calls_of(&object)).is_some(),
         None => false,
     }
 }
