@@ -1,7 +1,7 @@
-//! The lines of the table. A file of this folder has those of one primitive.
+//! The lines of the table. A file of this folder has those of one primitive, and of what it is compared with.
 //!
 //! A new line is an `Operation` there, which has its objects, and a function that hands it to `successes`; and here a variant,
-//! its place in `LINES`, its name and its call. The name is said once more in `specs/Lines.antt` and in the tests.
+//! its place in `LINES`, its name and its call. The name is said once more in `specs/Lines.antt`.
 ghost use Rattle.std.specs.Prelude.{◌≡◌, ◌≤◌};
 
 mod atomic;
@@ -17,7 +17,6 @@ mod rwvalue;
 mod rwwriter;
 mod semaphore;
 mod spin_lock;
-mod yardsticks;
 
 use std::alloc::{AllocError, Global};
 use std::sync::Wait;
@@ -178,52 +177,48 @@ impl Line {
     /// and how long they take, has no contract: they are only safe.
     pub fn run(self, rt: &impl Wait, alloc: Global) -> Result<u32, AllocError> {
         match self {
-            Line::BareExchangeStore => Ok(yardsticks::bare_exchange_store()),
-            Line::StdMutexLockUnlock => Ok(yardsticks::std_mutex_lock_unlock(rt)),
+            Line::BareExchangeStore => Ok(mutex::bare_exchange_store()),
+            Line::StdMutexLockUnlock => Ok(mutex::std_mutex_lock_unlock(rt)),
             Line::MutexLockUnlock => mutex::lock_unlock(rt, alloc),
             Line::MutexTryLockUnlock => mutex::try_lock_unlock(alloc),
             Line::MutexNewDrop => Ok(mutex::new_drop(alloc)),
-            Line::BareLoadExchangeSubtract => Ok(yardsticks::bare_load_exchange_subtract()),
-            Line::StdRwLockReadUnlock => Ok(yardsticks::std_rwlock_read_unlock(rt)),
-            Line::StdRwLockWriteUnlock => Ok(yardsticks::std_rwlock_write_unlock(rt)),
+            Line::BareLoadExchangeSubtract => Ok(rwreader::bare_load_exchange_subtract()),
+            Line::StdRwLockReadUnlock => Ok(rwreader::std_rwlock_read_unlock(rt)),
+            Line::StdRwLockWriteUnlock => Ok(rwreader::std_rwlock_write_unlock(rt)),
             Line::RwReaderReadUnlock => rwreader::read_unlock(rt, alloc),
             Line::RwReaderWriteUnlock => rwreader::write_unlock(rt, alloc),
-            Line::BareLoadExchangeSubtractTest => Ok(
-                yardsticks::bare_load_exchange_subtract_test(),
-            ),
-            Line::BareLoadExchangeStoreAdd => Ok(yardsticks::bare_load_exchange_store_add()),
+            Line::BareLoadExchangeSubtractTest => Ok(rwwriter::bare_load_exchange_subtract_test()),
+            Line::BareLoadExchangeStoreAdd => Ok(rwwriter::bare_load_exchange_store_add()),
             Line::RwWriterReadUnlock => rwwriter::read_unlock(rt, alloc),
             Line::RwWriterWriteUnlock => rwwriter::write_unlock(rt, alloc),
             Line::RwValueReadUnlock => rwvalue::read_unlock(rt, alloc),
             Line::RwValueWriteUnlock => rwvalue::write_unlock(rt, alloc),
             Line::SemaphoreTryWaitPost => semaphore::try_wait_post(rt, alloc),
             Line::SemaphoreValue => semaphore::value(alloc),
-            Line::BareLoadExchange => Ok(yardsticks::bare_load_exchange()),
-            Line::StdBarrierOfOne => Ok(yardsticks::std_barrier_of_one(rt)),
+            Line::BareLoadExchange => Ok(barrier::bare_load_exchange()),
+            Line::StdBarrierOfOne => Ok(barrier::std_barrier_of_one(rt)),
             Line::BarrierOfOne => barrier::of_one(rt, alloc),
-            Line::StdOnceLockGet => Ok(yardsticks::std_once_lock_get()),
+            Line::StdOnceLockGet => Ok(once::std_once_lock_get()),
             Line::OnceAfter => once::after(rt, alloc),
-            Line::BareSwaps => Ok(yardsticks::bare_swaps()),
-            Line::BareExchangeAddStore => Ok(yardsticks::bare_exchange_add_store()),
-            Line::StdMutexAddUnlock => Ok(yardsticks::std_mutex_add_unlock(rt)),
+            Line::BareSwaps => Ok(spin_lock::bare_swaps()),
+            Line::BareExchangeAddStore => Ok(guarded::bare_exchange_add_store()),
+            Line::StdMutexAddUnlock => Ok(guarded::std_mutex_add_unlock(rt)),
             Line::SpinLockUnlock => spin_lock::lock_unlock(rt, alloc),
             Line::GuardedAddUnlock => guarded::add_unlock(rt, alloc),
             Line::LazyForce => lazy_lock::force(rt, alloc),
-            Line::BareLoadExchangeLoadsSubtract => Ok(
-                yardsticks::bare_load_exchange_loads_subtract(),
-            ),
+            Line::BareLoadExchangeLoadsSubtract => Ok(atomic::bare_load_exchange_loads_subtract()),
             Line::AtomicLoad => atomic::load(rt, alloc),
             Line::AtomicWideLoad => atomic::load_wide(rt, alloc),
-            Line::BareExchangeStores => Ok(yardsticks::bare_exchange_stores()),
+            Line::BareExchangeStores => Ok(atomic::bare_exchange_stores()),
             Line::AtomicStore => atomic::store(rt, alloc),
-            Line::BareExchangeLoadsStores => Ok(yardsticks::bare_exchange_loads_stores()),
+            Line::BareExchangeLoadsStores => Ok(atomic::bare_exchange_loads_stores()),
             Line::AtomicFetchAdd => atomic::fetch_add(rt, alloc),
             Line::AtomicWideFetchAdd => atomic::fetch_add_wide(rt, alloc),
             Line::AtomicCompareExchange => atomic::compare_exchange(rt, alloc),
-            Line::BareLoadAdd => Ok(yardsticks::bare_load_add()),
-            Line::StdCondvarNotifyOne => Ok(yardsticks::std_condvar_notify_one()),
+            Line::BareLoadAdd => Ok(condvar::bare_load_add()),
+            Line::StdCondvarNotifyOne => Ok(condvar::std_condvar_notify_one()),
             Line::CondvarNotifyOne => condvar::notify_one(alloc),
-            Line::ChannelSendReceive => yardsticks::channel_send_receive(rt, alloc),
+            Line::ChannelSendReceive => queue::channel_send_receive(rt, alloc),
             Line::JobQueuePutTake => queue::put_take(rt, alloc),
         }
     }

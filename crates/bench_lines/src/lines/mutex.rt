@@ -1,11 +1,12 @@
-//! The lines of the mutex.
+//! The lines of the mutex, and what they are compared with.
 ghost use Rattle.running_mutex.specs.MutexShown.{IsMutexPass, HasStayed};
 
 use crate::lines::{Operation, successes};
 use iceoryx2_pal_concurrency_sync::strategy::mutex::{Mutex, MutexPass};
 use iceoryx2_pal_concurrency_sync::{WaitAction, WaitResult};
 use std::alloc::{AllocError, Global};
-use std::sync::Wait;
+use std::sync::atomic::{AtomicU64, Ordering};
+use std::sync::{self, Wait};
 
 /// Locks and unlocks, with closures that do nothing.
 pub fn lock_unlock(rt: &impl Wait, alloc: Global) -> Result<u32, AllocError> {
@@ -100,4 +101,48 @@ impl Operation for NewDrop {
 #[inline(never)]
 fn is_used(_mutex: &Mutex) -> bool {
     true
+}
+
+/// Takes and frees a bare word: the least that a lock and an unlock can do.
+pub fn bare_exchange_store() -> u32 {
+    successes(&mut Bare {
+        word: AtomicU64::new(0),
+    })
+}
+
+#[derive(Drop)]
+struct Bare {
+    word: AtomicU64,
+}
+
+impl Operation for Bare {
+    #[inline(always)]
+    fn once(&mut self) -> bool {
+        let word = &self.word;
+        let taken = word.compare_exchange(0, 1, Ordering::SeqCst, Ordering::SeqCst);
+        word.store(0, Ordering::SeqCst);
+        taken.is_ok()
+    }
+}
+
+/// Locks a mutex of std, reads what it guards, and drops the guard.
+pub fn std_mutex_lock_unlock(rt: &impl Wait) -> u32 {
+    successes(&mut StdLock {
+        rt,
+        mutex: sync::Mutex::new(true),
+    })
+}
+
+#[derive(Drop)]
+struct StdLock<'r, R: Wait> {
+    rt: &'r R,
+    mutex: sync::Mutex<bool>,
+}
+
+impl<R: Wait> Operation for StdLock<'_, R> {
+    #[inline(always)]
+    fn once(&mut self) -> bool {
+        let guard = self.mutex.lock(self.rt);
+        *guard
+    }
 }
