@@ -1,7 +1,7 @@
 //! The lines of the table. A file of this folder has those of one primitive, and of what it is compared with.
 //!
 //! A new line is an `Operation` there, which has its objects, and a function that hands it to `successes`; and here a variant,
-//! its place in `LINES`, its name and its call. The name is said once more in `specs/Lines.antt`.
+//! its place in `LINES`, its name and its call. The name is said once more in `specs/Lines.antt` and in the tests.
 ghost use Rattle.std.specs.Prelude.{◌≡◌, ◌≤◌};
 
 mod atomic;

@@ -1,11 +1,57 @@
 use crate::tests::benched;
-use bench_lines::lines::LINES;
 use std::alloc::{AllocError, Global};
 use std::cell::Cell;
 use std::io;
 use std::sync::Wait;
 use std::test::Fail;
 use std::time::{Clock, Duration};
+
+/// The names of the lines, in the order of the table.
+const NAMES: [&str; 43] = [
+    "bare exchange store",
+    "std mutex lock unlock",
+    "mutex lock unlock",
+    "mutex try_lock unlock",
+    "mutex new drop",
+    "bare load exchange subtract",
+    "std rwlock read unlock",
+    "std rwlock write unlock",
+    "rwlock reader read unlock",
+    "rwlock reader write unlock",
+    "bare load exchange subtract test",
+    "bare load exchange store add",
+    "rwlock writer read unlock",
+    "rwlock writer write unlock",
+    "rwvalue read unlock",
+    "rwvalue write unlock",
+    "semaphore try_wait post",
+    "semaphore value",
+    "bare load exchange",
+    "std barrier of one",
+    "barrier of one",
+    "std once_lock get",
+    "once after",
+    "bare swaps",
+    "bare exchange add store",
+    "std mutex add unlock",
+    "spin lock unlock",
+    "guarded add unlock",
+    "lazy force",
+    "bare load exchange loads subtract",
+    "atomic u64 load",
+    "atomic u128 load",
+    "bare exchange stores",
+    "atomic u64 store",
+    "bare exchange loads stores",
+    "atomic u64 fetch_add",
+    "atomic u128 fetch_add",
+    "atomic u64 compare_exchange",
+    "bare load add",
+    "std condvar notify_one",
+    "condvar notify_one",
+    "crossbeam_channel send receive",
+    "job_queue put take",
+];
 
 const HEAD: &str = "name\tmedian\tlower tenth\tupper tenth\n";
 
@@ -44,8 +90,7 @@ const ROUNDS: [(&[u8], u64, &str); 2] = [(b"1", 4_999, "0.04"), (b"2", 100_005_0
 /// The table each of whose lines has three times this figure.
 fn table_of(alloc: Global, figure: &str) -> Result<String, AllocError> {
     let mut table = String::from_str(alloc, HEAD)?;
-    for line in LINES {
-        let name = line.name();
+    for name in &NAMES {
         writeln!(table, "{name}\t{figure}\t{figure}\t{figure}")?;
     }
     Ok(table)
@@ -93,11 +138,10 @@ fn only_figure<'l>(line: &'l str, name: &str) -> Option<&'l str> {
 fn other_line(table: &str) -> Option<&str> {
     let mut lines = table.lines();
     let _head = lines.next();
-    for line in LINES {
-        let name = line.name();
+    for name in &NAMES {
         let figure = only_figure(lines.next().unwrap_or(""), name).unwrap_or("");
         if !is_figure(figure) {
-            return Some(name);
+            return Some(*name);
         }
     }
     lines.next()
