@@ -1,10 +1,8 @@
-//! Each public call of the model once, with ample memory; and the word functions at the ends of their types. Every text of the schedule is
-//! tested in `test_play`.
+//! Each public call of the model once, with ample memory; and the word functions at the ends of their types. Texts are played by `./test texts`.
 mod atomic;
-mod calls;
-mod ends;
 mod events;
 mod growths;
+mod objects;
 mod schedules;
 mod strides;
 

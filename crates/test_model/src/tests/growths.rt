@@ -1,24 +1,12 @@
 //! Each growth of `Machine::new` and of `play`, refused in turn: the heap grows from nothing until there is enough, by 16 bytes.
+use super::objects::OBJECTS;
 use super::schedules::{play_all, reads};
 use linked_list_allocator::LocalHeap;
-use std::alloc::{AllocError, Global};
+use std::alloc::Global;
 use std::test::Fail;
 use sync_steps::atomic::internal::AtomicInteger;
 use sync_steps::steps::Input::{Begin, Go};
-use sync_steps::steps::{Call, Input, Machine, Object, PlayFault, StepFault, play};
-
-const OBJECTS: [Object<u64>; 10] = [
-    Object::Mutex,
-    Object::Spin,
-    Object::Semaphore(5),
-    Object::Barrier(u32::MAX),
-    Object::ReaderLock,
-    Object::WriterLock,
-    Object::Condvar,
-    Object::Once,
-    Object::Lazy(7),
-    Object::Atomic(7),
-];
+use sync_steps::steps::{Call, Input, Machine, Object, PlayFault, play};
 
 /// Whether the heap has room for a machine.
 fn has_room<T: AtomicInteger>(heap: &LocalHeap, object: Object<T>, parties: usize) -> bool {
@@ -45,48 +33,10 @@ fn finds_room<T: AtomicInteger>(
 
 #[test]
 fn a_machine_that_finds_no_memory(rt: HostRuntime) -> Result<(), Fail> {
-    for object in &OBJECTS {
+    for (object, _, _) in &OBJECTS {
         for parties in [1, 3, 20] {
             assert!(rt; finds_room(rt.alloc(), *object, parties)?);
         }
-    }
-    Ok(())
-}
-
-/// Why a new machine refuses an input, where it does.
-pub fn refusal<T: AtomicInteger>(
-    alloc: Global,
-    object: Object<T>,
-    parties: usize,
-    party: usize,
-    input: Input<T>,
-) -> Result<Option<StepFault>, AllocError> {
-    let mut machine = Machine::<T>::new(alloc, object, parties)?;
-    Ok(machine.step(party, input).err())
-}
-
-/// Why a party that is not there cannot go on, at a machine of nobody; the last of a thousand; and one that comes after them.
-fn refusals<T: AtomicInteger>(
-    alloc: Global,
-    object: Object<T>,
-) -> Result<[Option<StepFault>; 3], AllocError> {
-    Ok([
-        refusal(alloc, object, 0, 0, Go)?,
-        refusal(alloc, object, 1000, 999, Go)?,
-        refusal(alloc, object, 1000, 1000, Go)?,
-    ])
-}
-
-/// A machine of nobody, and one of a thousand, of every object.
-#[test]
-fn machines_of_nobody_and_of_a_thousand(rt: HostRuntime) -> Result<(), Fail> {
-    let wanted = [
-        Some(StepFault::NoParty),
-        Some(StepFault::Idle),
-        Some(StepFault::NoParty),
-    ];
-    for object in &OBJECTS {
-        assert_eq!(rt; refusals(rt.alloc(), *object)?, wanted);
     }
     Ok(())
 }
