@@ -11,10 +11,11 @@ use crate::objects::{
 use crate::repeat::repeat;
 use model_events::event::{Call, Object};
 use std::alloc::AllocError;
-use text_lines::call::{calls_of, name_of, named};
+use text_lines::call::{name_of, named};
 use text_lines::command::is_known;
 use text_lines::fault::{FaultyLine, LineFault};
 use text_lines::lexer::{is, next_word, number_within};
+use text_lines::objects::calls_of;
 
 /// Adds the names of calls, with commas between.
 fn add_names(out: &mut Vec<u8>, calls: &[Call<()>]) -> Result<(), AllocError>

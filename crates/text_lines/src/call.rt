@@ -3,7 +3,6 @@ ghost use Rattle.std.specs.Prelude.{◌≡◌};
 ghost use Rattle.text_lines.specs.Call as meaning;
 
 use crate::lexer::is;
-pub use crate::objects::calls_of;
 use model_events::event::Call;
 
 /// The name of a call, as in the Rust crate, but that `wait` is `start_wait`, since `wait` is the closure's answer.

@@ -186,7 +186,7 @@ spins_at (Place.RwWriter place) told = rw_writer_spins place (unwrap_or told 0)
 spins_at (Place.Condvar place) told = condvar_spins place told
 spins_at (Place.Once place) told = once_spins place (unwrap_or told 0)
 spins_at (Place.Lazy place v) told = lazy_spins place (unwrap_or told 0)
-spins_at other told = 0
+spins_at (Place.Atomic place) told = 0
 
 -- The place after so many more spins; those of a spin lock and a once count none.
 
@@ -227,9 +227,12 @@ condvar_spun n other = other
 
 abbrev pub spun_at : {T : Type 0} → ℕ → Place T → Place T
 spun_at n (Place.Mutex place) = Place.Mutex (mutex_spun n place)
+spun_at n (Place.Spin place) = Place.Spin place
 spun_at n (Place.Semaphore place) = Place.Semaphore (semaphore_spun n place)
 spun_at n (Place.Barrier place) = Place.Barrier (barrier_spun n place)
 spun_at n (Place.RwReader place) = Place.RwReader (rw_reader_spun n place)
 spun_at n (Place.RwWriter place) = Place.RwWriter (rw_writer_spun n place)
 spun_at n (Place.Condvar place) = Place.Condvar (condvar_spun n place)
-spun_at n other = other
+spun_at n (Place.Once place) = Place.Once place
+spun_at n (Place.Lazy place v) = Place.Lazy place v
+spun_at n (Place.Atomic place) = Place.Atomic place
