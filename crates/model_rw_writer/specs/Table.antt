@@ -30,6 +30,10 @@ is_marked word = is_odd word && not (word == 2 ^ 64 - 1)
 abbrev pub is_blocked : ℕ → Bool
 is_blocked word = is_odd word && nat_lt 1 word
 
+-- one read hold stands, under the mark, which its release leaves alone
+abbrev pub is_last_reader : ℕ → Bool
+is_last_reader word = word == 3
+
 -- Where a call begins: with all its spins, and it asks until its closure answers Abort.
 abbrev pub rw_writer_begins : {T : Type 0} → Call T → Option RwWriterPlace
 rw_writer_begins Call.TryReadLock = Some RwWriterPlace.TryReadLook
@@ -111,7 +115,7 @@ last_look count patience v = if is_blocked v then After.Waits (RwWriterPlace.Wri
 -- after a release: the last reader under a mark counts and wakes one, another reader has ended; the writer counts and wakes one, then all
 abbrev pub released : {T : Type 0} → Option ℕ → After T RwWriterPlace
 released None = After.At (RwWriterPlace.Count Leaver.Writer)
-released (Some old) = if old == 3 then After.At (RwWriterPlace.Count Leaver.Reader) else After.Ends Answer.Done
+released (Some old) = if is_last_reader old then After.At (RwWriterPlace.Count Leaver.Reader) else After.Ends Answer.Done
 
 abbrev pub woken_one : {T : Type 0} → Leaver → After T RwWriterPlace
 woken_one Leaver.Reader = After.Ends Answer.Done

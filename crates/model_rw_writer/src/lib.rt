@@ -7,7 +7,7 @@ ghost use Rattle.model_events.specs.declared.event.Event.{Event as AnEvent};
 ghost use Rattle.model_events.specs.Arithmetic.{Arithmetic};
 ghost use Rattle.model_events.specs.Runs.{IsPast};
 ghost use Rattle.model_rw_writer.specs.Law.{KeepsRwWriter};
-ghost use Rattle.model_rw_writer.specs.Table.{rw_writer_begins, rw_writer_intent, rw_writer_after, rw_writer_answered, release, try_read_look, read_look, spins, marks_or_spins, unmarks_or_leaves, write_refused, write_look, last_look, released, woken_one, woken_all, is_blocked, rw_writer_grant, rw_writer_woken, rw_writer_table};
+ghost use Rattle.model_rw_writer.specs.Table.{rw_writer_begins, rw_writer_intent, rw_writer_after, rw_writer_answered, release, try_read_look, read_look, spins, marks_or_spins, unmarks_or_leaves, write_refused, write_look, last_look, released, woken_one, woken_all, is_blocked, is_last_reader, rw_writer_grant, rw_writer_woken, rw_writer_table};
 
 use model_events::event::{Answer, Call, Wake, Word};
 use model_events::hold::HoldKind;
@@ -83,6 +83,22 @@ pub fn unmarks(word: u64) -> Option<u64>
     } else {
         None
     }
+}
+
+/// Whether a write hold stands, or the mark is set beside a read hold.
+#[inline(always)]
+pub fn is_blocked(word: u64) -> bool
+    ensures { result ≡ is_blocked word }
+{
+    word % 2 == 1 && word > 1
+}
+
+/// Whether one read hold stands, under the mark: who releases it counts, and wakes a writer.
+#[inline(always)]
+pub fn is_last_reader(word: u64) -> bool
+    ensures { result ≡ is_last_reader word }
+{
+    word == 3
 }
 
 /// Who leaves the lock and wakes those that wait.
@@ -402,14 +418,6 @@ fn write_look<T>(patience: &Patience, seen: u64) -> After<T, RwWriterPlace>
     }
 }
 
-/// Whether a write hold stands, or the mark is set beside a read hold.
-#[inline(always)]
-fn is_blocked(word: u64) -> bool
-    ensures { result ≡ is_blocked word }
-{
-    word % 2 == 1 && word > 1
-}
-
 /// After its last look a writer stands where the lock is blocked, and its closure is told the counter. Else that is a look like others.
 #[inline(always)]
 fn last_look<T>(count: u64, patience: &Patience, seen: u64) -> After<T, RwWriterPlace>
@@ -429,8 +437,13 @@ fn released<T>(old: Option<u64>) -> After<T, RwWriterPlace>
 {
     match old {
         None => After::At(RwWriterPlace::Count(Leaver::Writer)),
-        Some(3) => After::At(RwWriterPlace::Count(Leaver::Reader)),
-        Some(_) => After::Ends(Answer::Done),
+        Some(old) => {
+            if is_last_reader(old) {
+                After::At(RwWriterPlace::Count(Leaver::Reader))
+            } else {
+                After::Ends(Answer::Done)
+            }
+        }
     }
 }
 

@@ -1,5 +1,5 @@
 -- The steps of a writer-preferring lock are those of its table.
-use Rattle.running_rw_writer.proofs.Names.{MatchBool, WaitAction, Word, Call, Answer, HoldKind, Patience, Intent, After, Leaver, RwWriterPlace, rw_writer_intent, rw_writer_grant, is_blocked, try_read_look, read_look, spins, marks_or_spins, unmarks_or_leaves, write_look, write_refused, last_look, released, woken_all, rw_writer_model, Slot, Parties, all_of, IsNamed, IsStepOn, Coming, Going, Beginning, Continuing, Answered, ComesBy, IsHolding, HasCalled, HasEnded, spun, IsGranted, StandsToWait, rw_writer_handed, eqb-false, eqb-true, ◌≡◌, ◌≢◌, ℕ, ◌+◌, ◌-◌, ◌%◌, ◌^◌, ◌<◌, ◌≤◌, ◌==◌, true, false, refl, sym, subst, ◌∙◌, List, [], ◌∷◌, Option, Some, None, arith, ne_eqb, is_over, nat_tests, MayLook, MayEnter, IsMarked, IsOpen, has_hold, TableHas, TableLed, CallGoes, WriteGoes, GoesFromTo, SomeCallGoes, ComesToWrite, ComesToGiveUp, WriteIsGranted, IsToWakeBoth, Unlocks, unlocked}
+use Rattle.running_rw_writer.proofs.Names.{MatchBool, WaitAction, Word, Call, Answer, HoldKind, Patience, Intent, After, Leaver, RwWriterPlace, rw_writer_intent, rw_writer_grant, is_blocked, try_read_look, read_look, spins, marks_or_spins, unmarks_or_leaves, write_look, write_refused, last_look, released, woken_all, is_last_reader, rw_writer_model, Slot, Parties, all_of, IsNamed, IsStepOn, Coming, Going, Beginning, Continuing, Answered, ComesBy, IsHolding, HasCalled, HasEnded, spun, IsGranted, StandsToWait, rw_writer_handed, eqb-false, eqb-true, ◌≡◌, ◌≢◌, ℕ, ◌+◌, ◌-◌, ◌%◌, ◌^◌, ◌<◌, ◌≤◌, ◌==◌, true, false, refl, sym, subst, List, [], ◌∷◌, Option, Some, None, arith, ne_eqb, is_over, nat_tests, MayLook, MayEnter, IsMarked, IsOpen, has_hold, TableHas, TableLed, CallGoes, WriteGoes, GoesFromTo, SomeCallGoes, ComesToWrite, ComesToGiveUp, WriteIsGranted, IsToWakeBoth, Unlocks, unlocked, Pass, PlayedRwWriter, parties_of}
 use Rattle.running_model.specs.Turns.{IsOver, IsOverAside, IsOverAfterTwo}
 use Rattle.running_model.proofs.Holding.{holding_told, holding_is}
 
@@ -197,21 +197,31 @@ leaves_reading found p q went = λ done holding. went Call.Unlock RwWriterPlace.
 pub leaves_writing : (found : ℕ) (p q : Parties ℕ) → TableLed (Continuing Call.Unlock) p found q → Unlocks HoldKind.Write (After.At (RwWriterPlace.Count Leaver.Writer)) p q
 leaves_writing found p q went = λ done holding. went Call.Unlock RwWriterPlace.Release (Some HoldKind.Write) done (unlock_begins HoldKind.Write done p holding)
 
+-- from the pass with which the call began
+pub since_begun : (kind : HoldKind) (after : After ℕ RwWriterPlace) (p begun : Pass PlayedRwWriter) (q : Parties ℕ) → begun ≡ p → Unlocks kind after (parties_of begun) q → Unlocks kind after (parties_of p) q
+since_begun kind after p begun q is goes = subst (λ (b : Pass PlayedRwWriter). Unlocks kind after (parties_of b) q) is goes
+
 -- the party that had this hold goes on so
 pub unlocking : (kind : HoldKind) (after : After ℕ RwWriterPlace) (p q : Parties ℕ) → has_hold kind p ≡ true → Unlocks kind after p q → SomeCallGoes after q
 unlocking kind after p q has goes = record { call = Call.Unlock; done = p.resting; at = goes p.resting (holding_told rw_writer_model kind p has) }
 
-pub last_reader : (found : ℕ) (p q : Parties ℕ) → found ≡ 3 → Unlocks HoldKind.Read (released (Some found)) p q → Unlocks HoldKind.Read (After.At (RwWriterPlace.Count Leaver.Reader)) p q
-last_reader found p q is goes = λ done holding. subst (λ n. CallGoes Call.Unlock (released (Some n)) done q) is (goes done holding)
+comes_to_count : (found : ℕ) (done : List (Slot ℕ)) (q : Parties ℕ) → is_last_reader found ≡ true → CallGoes Call.Unlock (released (Some found)) done q → CallGoes Call.Unlock (After.At (RwWriterPlace.Count Leaver.Reader)) done q
+comes_to_count found done q h1 h2 = grind (arith, nat_tests, eqb-true, eqb-false)
 
-pub wakes_writer : (found last : ℕ) (p q r : Parties ℕ) → found ≡ 3 → last ≡ found → Unlocks HoldKind.Read (After.At (RwWriterPlace.Count Leaver.Reader)) p q → GoesFromTo Call.Unlock (After.At (RwWriterPlace.Count Leaver.Reader)) (After.At (RwWriterPlace.WakeOne Leaver.Reader)) q r →
+pub last_reader : (found : ℕ) (p q : Parties ℕ) → is_last_reader found ≡ true → Unlocks HoldKind.Read (released (Some found)) p q → Unlocks HoldKind.Read (After.At (RwWriterPlace.Count Leaver.Reader)) p q
+last_reader found p q is goes = λ done holding. comes_to_count found done q is (goes done holding)
+
+comes_to_wake : (found : ℕ) (done : List (Slot ℕ)) (r : Parties ℕ) → is_last_reader found ≡ true → CallGoes Call.Unlock (After.At (RwWriterPlace.WakeOne Leaver.Reader)) done r → CallGoes Call.Unlock (unlocked HoldKind.Read found) done r
+comes_to_wake found done r h1 h2 = grind (arith, nat_tests, eqb-true, eqb-false)
+
+pub wakes_writer : (found last : ℕ) (p q r : Parties ℕ) → is_last_reader found ≡ true → last ≡ found → Unlocks HoldKind.Read (After.At (RwWriterPlace.Count Leaver.Reader)) p q → GoesFromTo Call.Unlock (After.At (RwWriterPlace.Count Leaver.Reader)) (After.At (RwWriterPlace.WakeOne Leaver.Reader)) q r →
     Unlocks HoldKind.Read (unlocked HoldKind.Read last) p r
-wakes_writer found last p q r is saw goes on = λ done holding. subst (λ n. CallGoes Call.Unlock (unlocked HoldKind.Read n) done r) (sym (saw ∙ is)) (on done (goes done holding))
+wakes_writer found last p q r is saw goes on = λ done holding. subst (λ n. CallGoes Call.Unlock (unlocked HoldKind.Read n) done r) (sym saw) (comes_to_wake found done r is (on done (goes done holding)))
 
 -- another reader is answered
 
-ends_reading : (found : ℕ) (done : List (Slot ℕ)) (q : Parties ℕ) → found ≢ 3 → CallGoes Call.Unlock (released (Some found)) done q → CallGoes Call.Unlock (After.Ends Answer.Done) done q
+ends_reading : (found : ℕ) (done : List (Slot ℕ)) (q : Parties ℕ) → is_last_reader found ≡ false → CallGoes Call.Unlock (released (Some found)) done q → CallGoes Call.Unlock (After.Ends Answer.Done) done q
 ends_reading found done q h1 h2 = grind (arith, nat_tests, eqb-true, eqb-false)
 
-pub other_is_over : (found : ℕ) (p q : Parties ℕ) → found ≢ 3 → has_hold HoldKind.Read p ≡ true → Unlocks HoldKind.Read (released (Some found)) p q → IsOver rw_writer_model q
+pub other_is_over : (found : ℕ) (p q : Parties ℕ) → is_last_reader found ≡ false → has_hold HoldKind.Read p ≡ true → Unlocks HoldKind.Read (released (Some found)) p q → IsOver rw_writer_model q
 other_is_over found p q other has goes = is_over rw_writer_model Call.Unlock Answer.Done None p.resting q (ends_reading found p.resting q other (goes p.resting (holding_told rw_writer_model HoldKind.Read p has)))

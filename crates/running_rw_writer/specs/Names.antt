@@ -7,13 +7,13 @@ pub use Rattle.model_events.specs.declared.hold.HoldKind.{HoldKind}
 pub use Rattle.model_events.specs.declared.patience.Patience.{Patience}
 pub use Rattle.model_events.specs.declared.row.After.{After}
 pub use Rattle.model_events.specs.declared.row.Intent.{Intent}
-pub use Rattle.model_rw_writer.specs.Table.{rw_writer_table, woken_one, read_look, write_look, spins, released, unmarks_or_leaves, rw_writer_grant, rw_writer_intent, is_marked, is_blocked, try_read_look, marks_or_spins, write_refused, last_look, woken_all}
+pub use Rattle.model_rw_writer.specs.Table.{rw_writer_table, woken_one, read_look, write_look, spins, released, unmarks_or_leaves, rw_writer_grant, rw_writer_intent, is_blocked, try_read_look, marks_or_spins, write_refused, last_look, woken_all, is_last_reader}
 pub use Rattle.model_rw_writer.specs.declared.Leaver.{Leaver}
 pub use Rattle.model_rw_writer.specs.declared.RwWriterPlace.{RwWriterPlace}
 pub use Rattle.running_model.specs.Counts.{HasOnlySeen, HasMoved, HasSeen}
 pub use Rattle.running_model.specs.Holding.{is_holding}
 pub use Rattle.running_model.specs.Passes.{parties_of, counts_of as tally_of, counted, none_played, both_played, PlaysAndCounts, IsOfARun, counts_of, core_played, played_add_up, IsShare, Told}
-pub use Rattle.running_model.specs.Plays.{Coming, Answered, ComesBy, IsHolding, Leads, HasEnded, MayStep, Went, HasCalled, Going, Beginning, Continuing, Led}
+pub use Rattle.running_model.specs.Plays.{Coming, Answered, ComesBy, IsHolding, Leads, HasEnded, MayStep, Went, HasCalled, Going, Beginning, Continuing}
 pub use Rattle.running_model.specs.Slots.{Slot, Parties, all_of}
 pub use Rattle.running_model.specs.Tries.{spun, IsGranted, StandsToWait}
 pub use Rattle.running_model.specs.Words.{IsNamed, IsStepOn}
@@ -32,6 +32,6 @@ pub use Rattle.running_tallies.specs.Held.{read_holds, write_holds, Knows, same_
 pub use Rattle.running_tallies.specs.RwReader.{no_holds, Holds, both_holds}
 pub use Rattle.running_tallies.specs.RwWriter.{read, no_more_read, written, no_more_written, flagged, nothing_marked, both_marked, lowered, AreMarkedIn, IsMarkedOrHeld, marked_sees, marked_after, marked_needed, rw_writer_model, rw_writer_handed}
 pub use Rattle.running_tallies.specs.declared.rw_writer.MarkedHolds.{MarkedHolds}
-pub use Rattle.std.specs.Prelude.{◌≡◌, ◌⊎◌, ℕ, false, ◌==◌, if◌then◌else◌, Bool, List, [], ◌∷◌, Some, None, ◌≢◌, true, Option, ◌+◌, ◌-◌, ◌*◌, ◌%◌, ◌^◌, ◌<◌, ◌≤◌, slice_index, MatchBool, is_some}
+pub use Rattle.std.specs.Prelude.{◌≡◌, ◌⊎◌, ℕ, false, if◌then◌else◌, Bool, List, [], ◌∷◌, Some, None, ◌≢◌, true, Option, ◌+◌, ◌-◌, ◌*◌, ◌%◌, ◌^◌, ◌<◌, ◌≤◌, slice_index, is_some}
 pub use mathlib.Core.Logic.{dite}
 pub use native.Mathlib.Decide.{ℕ_discrete}

@@ -1,5 +1,5 @@
 -- The party of the model that a pass of a writer-preferring lock is, and how its calls go.
-use Rattle.running_rw_writer.specs.Names.{◌≡◌, ◌⊎◌, ℕ, false, ◌==◌, if◌then◌else◌, Bool, List, [], ◌∷◌, Some, None, WaitAction, Word, Call, Answer, HoldKind, Patience, Intent, After, Leaver, RwWriterPlace, rw_writer_table, woken_one, rw_writer_model, Slot, Parties, Coming, Answered, ComesBy, IsHolding, Leads, HasEnded, MayStep, Went, is_holding}
+use Rattle.running_rw_writer.specs.Names.{◌≡◌, ◌⊎◌, ℕ, false, if◌then◌else◌, Bool, List, [], ◌∷◌, Some, None, WaitAction, Word, Call, Answer, HoldKind, Patience, Intent, After, Leaver, RwWriterPlace, rw_writer_table, woken_one, is_last_reader, rw_writer_model, Slot, Parties, Coming, Answered, ComesBy, IsHolding, Leads, HasEnded, MayStep, Went, is_holding}
 
 -- a party of the pass has a hold of this kind
 abbrev pub has_hold : HoldKind → Parties ℕ → Bool
@@ -72,5 +72,5 @@ Unlocks kind after p q = (done : List (Slot ℕ)) → IsHolding rw_writer_model 
 -- How an `Unlock` goes on once it has made its steps on words, where its release found this: the last reader under a mark has counted, and
 -- is to wake one; another reader is answered; the writer has counted, and is to wake one and then all.
 abbrev pub unlocked : HoldKind → ℕ → After ℕ RwWriterPlace
-unlocked HoldKind.Read found = if found == 3 then After.At (RwWriterPlace.WakeOne Leaver.Reader) else After.Ends Answer.Done
+unlocked HoldKind.Read found = if is_last_reader found then After.At (RwWriterPlace.WakeOne Leaver.Reader) else After.Ends Answer.Done
 unlocked HoldKind.Write found = After.At (RwWriterPlace.WakeOne Leaver.Writer)

@@ -3,7 +3,7 @@ ghost use Rattle.std.specs.Prelude.{◌≡◌, ◌+◌, ◌<◌};
 
 use crate::steps::PlayedPass;
 use crate::{LOCK, RwLockWriterPreference, RwWriterPass};
-use model_rw_writer::{RwWriterPlace, reader_enters};
+use model_rw_writer::{RwWriterPlace, is_last_reader, reader_enters};
 use running_model::Sealed;
 use running_model::turn::{Goes, Turn, Way, begin_held};
 use running_rw_hold::{ReadSteps, UnlockCall};
@@ -154,14 +154,11 @@ impl<A: Allocator> RwLockWriterPreference<A> {
     {
         let begun = begin_held::<UnlockCall, PlayedPass>(pass);
         let (found, left) = self.leave_reading(begun);
-        if found != LAST_READER {
-            let _pass = left.end(&self.stage);
+        if is_last_reader(found) {
+            let counted = self.count_up(left);
+            let _pass = self.wake_one(counted, wake_one);
             return;
         }
-        let counted = self.count_up(left);
-        let _pass = self.wake_one(counted, wake_one);
+        let _pass = left.end(&self.stage);
     }
 }
-
-/// The lock's word with one read hold and the mark.
-const LAST_READER: u64 = 3;

@@ -28,9 +28,7 @@ impl<A: Allocator> RwLockWriterPreference<A> {
     ghost use Rattle.model_rw_writer.specs.Table.{released, marks_or_spins, spins, unmarks_or_leaves, write_look, last_look};
     ghost use Rattle.running_passes.specs.Passes.{sights_of, IsSamePass};
     ghost use Rattle.running_model.specs.Slots.{Slot};
-    ghost use Rattle.running_model.specs.Plays.{Going};
     ghost use Rattle.running_model.specs.Passes.{parties_of, counted};
-    ghost use Rattle.running_model.specs.Counts.{HasSeen, HasMissed, HasDone};
     ghost use Rattle.running_model.specs.Stages.{IsPassOf, id_of};
     ghost use Rattle.running_tallies.specs.Shown.{object_shown, index_shown};
     ghost use Rattle.running_rw_writer.specs.RwWriterParties.{has_hold, TableHas, TableLed, SomeCallGoes, GoesFromTo, WriteGoes, ComesToWrite, IsToWakeBoth, Unlocks};
@@ -68,25 +66,6 @@ impl<A: Allocator> RwLockWriterPreference<A> {
         ensures alone { SaysAlone (counted turn.entry.pass.now) result.0 }
         ensures looked { (patience : Patience) (done : List (Slot ℕ)) → ComesToWrite W.coming patience done (parties_of turn.entry.pass.now) → WriteGoes (write_look patience result.0) done (parties_of result.1.pass.now) }
     {
-        turn.load(&self.stage, LOCK)
-    }
-
-    /// The last load by a writer before it stands: it has loaded the counter just before, and found this.
-    #[inline(always)]
-    pub(crate) fn look_last<'p>(
-        &self,
-        turn: Turn<'p, PlayedPass, Goes>,
-        count: u64,
-    ) -> (u64, Turn<'p, PlayedPass, Goes>)
-        requires own { IsPassOf self.now.stage turn.pass.now }
-        requires at { (patience : Patience) × (done : List (Slot ℕ)) × WriteGoes (afters.At (places.LastLook count patience)) done (parties_of turn.pass.now) }
-        ensures same_borrow { result.1.pass.ghost_name ≡ turn.entry.pass.ghost_name }
-        ensures tried { HasTried 1 turn.entry.pass.now result.1.pass.now }
-        ensures just { HasJustSeen result.0 result.1.pass.now }
-        ensures alone { SaysAlone (counted turn.entry.pass.now) result.0 }
-        ensures looked { (patience : Patience) → GoesFromTo calls.WriteLock (afters.At (places.LastLook count patience)) (last_look count patience result.0) (parties_of turn.entry.pass.now) (parties_of result.1.pass.now) }
-    {
-        let _count = count;
         turn.load(&self.stage, LOCK)
     }
 
@@ -184,10 +163,7 @@ impl<A: Allocator> RwLockWriterPreference<A> {
 
     /// A load of the counter.
     #[inline(always)]
-    pub(crate) fn load_count<'p>(
-        &self,
-        turn: Turn<'p, PlayedPass, Goes>,
-    ) -> (u64, Turn<'p, PlayedPass, Goes>)
+    fn load_count<'p>(&self, turn: Turn<'p, PlayedPass, Goes>) -> (u64, Turn<'p, PlayedPass, Goes>)
         requires own { IsPassOf self.now.stage turn.pass.now }
         requires at { (patience : Patience) × (done : List (Slot ℕ)) × WriteGoes (afters.At (places.LoadCounter patience)) done (parties_of turn.pass.now) }
         ensures same_borrow { result.1.pass.ghost_name ≡ turn.entry.pass.ghost_name }
@@ -196,6 +172,24 @@ impl<A: Allocator> RwLockWriterPreference<A> {
         ensures unchanged { Unchanged (counted turn.entry.pass.now) (counted result.1.pass.now) }
     {
         turn.load(&self.stage, COUNTER)
+    }
+
+    /// Loads the counter, and then the word, which is a writer's last look before it stands: the count, and the value seen.
+    #[inline(always)]
+    pub(crate) fn look_last<'p>(
+        &self,
+        turn: Turn<'p, PlayedPass, Goes>,
+    ) -> (u64, u64, Turn<'p, PlayedPass, Goes>)
+        requires own { IsPassOf self.now.stage turn.pass.now }
+        requires at { (patience : Patience) × (done : List (Slot ℕ)) × WriteGoes (afters.At (places.LoadCounter patience)) done (parties_of turn.pass.now) }
+        ensures same_borrow { result.2.pass.ghost_name ≡ turn.entry.pass.ghost_name }
+        ensures tried { HasTried 1 turn.entry.pass.now result.2.pass.now }
+        ensures just { HasJustSeen result.1 result.2.pass.now }
+        ensures looked { (patience : Patience) → GoesFromTo calls.WriteLock (afters.At (places.LoadCounter patience)) (last_look result.0 patience result.1) (parties_of turn.entry.pass.now) (parties_of result.2.pass.now) }
+    {
+        let (count, loaded) = self.load_count(turn);
+        let (seen, looked) = loaded.load(&self.stage, LOCK);
+        (count, seen, looked)
     }
 
     /// An add of 1 to the counter.

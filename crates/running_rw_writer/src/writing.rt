@@ -1,11 +1,10 @@
 //! What calls of a writer-preferring lock do for a writer.
 ghost use Rattle.std.specs.Prelude.{◌≡◌};
-ghost use Rattle.model_rw_writer.specs.Table.{is_blocked as blocked};
 
 use crate::steps::PlayedPass;
 use crate::{RwLockWriterPreference, RwWriterPass};
 use model_events::{SPIN_REPETITIONS, WaitAction};
-use model_rw_writer::{marks, unmarks, writer_enters};
+use model_rw_writer::{is_blocked, marks, unmarks, writer_enters};
 use running_model::turn::{Aborted, Answered, Goes, Turn, Way, begin_held, begin_new};
 use running_rw_hold::{TryWriteCall, UnlockCall, WriteCall};
 use running_tallies::WaitWord;
@@ -345,8 +344,7 @@ impl<A: Allocator> RwLockWriterPreference<A> {
         ensures stood { IfErr result (λ aborted. OnceWriting (afters.At (places.LoadCounter (spun 10000))) (parties_of turn.entry.pass.now) (λ done. ComesToGiveUp done (parties_of aborted.pass.now))) }
         ensures aborted { IfErr result (λ _. MayAnswerAbort W.Fn wait.now (λ n. n < 2 ^ 64)) }
     {
-        let (count, loaded) = self.load_count(turn);
-        let (seen, looked) = self.look_last(loaded, count);
+        let (count, seen, looked) = self.look_last(turn);
         if is_blocked(seen) {
             return match looked.ask(&self.stage, &self.counter(), count, wait) {
                 Answered::Continue(continued) => Ok(self.enter_or_mark(continued, rt)),
@@ -486,12 +484,4 @@ impl<A: Allocator> RwLockWriterPreference<A> {
         let last = self.count_up(left);
         let _pass = self.wake_both(last, wake_one, wake_all);
     }
-}
-
-/// Whether a writer is in, or the mark is set beside readers.
-#[inline(always)]
-fn is_blocked(word: u64) -> bool
-    ensures { result ≡ blocked word }
-{
-    word % 2 == 1 && word > 1
 }

@@ -4,7 +4,7 @@ use model_barrier::{arrived, opened};
 use model_condvar::{CondvarPlace, permits_for};
 use model_events::patience::Patience;
 use model_mutex::MutexPlace;
-use model_rw_writer::{RwWriterPlace, marks, unmarks};
+use model_rw_writer::{RwWriterPlace, is_blocked, is_last_reader, marks, unmarks};
 use model_semaphore::{SemaphorePlace, posted, taken};
 use std::alloc::{AllocError, Global};
 use std::test::Fail;
@@ -360,6 +360,26 @@ fn moved(word: u64) -> [Option<u64>; 11] {
 fn moves_at_the_ends(rt: HostRuntime) {
     for (word, wanted) in &MOVES {
         assert_eq!(rt; moved(*word), *wanted, "at {word}");
+    }
+}
+
+/// A word of the writer-preferring lock, whether it is blocked, and whether its one reader stands under the mark.
+const STANDING: [(u64, bool, bool); 8] = [
+    (0, false, false),
+    (1, false, false),
+    (2, false, false),
+    (3, true, true),
+    (4, false, false),
+    (5, true, false),
+    (u64::MAX - 1, false, false),
+    (u64::MAX, true, false),
+];
+
+#[test]
+fn who_stands_at_a_word(rt: HostRuntime) {
+    for (word, blocked, last) in &STANDING {
+        assert_eq!(rt; is_blocked(*word), *blocked, "at {word}");
+        assert_eq!(rt; is_last_reader(*word), *last, "at {word}");
     }
 }
 
