@@ -4,7 +4,7 @@ use Rattle.running_passes.specs.Views.{left_view, right_view, joined_view}
 use Rattle.running_model.specs.Passes.{parties_of, core_played, both_played}
 use Rattle.running_tallies.specs.Mutex.{no_holds, both_holds}
 use Rattle.running_tallies.specs.Semaphore.{no_permits, both_permits}
-use Rattle.running_mutex.specs.CondRule.{no_waits, both_waits}
+use Rattle.running_mutex.specs.Cond.{no_waits, both_waits}
 use Rattle.running_spin_lock.specs.ValueRule.{core_held, both_held}
 use Rattle.running_mutex.specs.Often.{Often, HasWaitedOften}
 use Rattle.running_mutex.specs.MutexShown as mutexes

@@ -8,7 +8,7 @@ use Rattle.running_passes.specs.declared.view.View.{View}
 use Rattle.running_once.specs.declared.Runs.{Runs}
 use Rattle.running_once.specs.declared.OncePass.{OncePass}
 use Rattle.running_once.specs.OnceShown as once
-use Rattle.running_spin_lock.specs.SpinRule.{SpinView}
+use Rattle.running_spin_lock.specs.Spin.{SpinView}
 use Rattle.running_spin_lock.specs.declared.pass.SpinPass.{SpinPass}
 use Rattle.running_spin_lock.specs.SpinShown as spin
 use Rattle.running_lazy_lock.specs.declared.pass.LazyPass.{LazyPass}

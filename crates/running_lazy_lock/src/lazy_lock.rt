@@ -26,7 +26,7 @@ pub struct LazyLock<T, F = fn() -> T, G: Gives<T, F> = Brand, A: Allocator = Glo
 impl<T: Drop, F: Drop, A: Allocator + Clone> LazyLock<T, F, Brand, A> {
     ghost use Rattle.running_lazy_lock.specs.LazyShown.{IsLazyPass, known_by, known_of_init};
     ghost use Rattle.running_passes.specs.Views.{first_view};
-    ghost use Rattle.running_once.specs.OnceRule.{no_runs};
+    ghost use Rattle.running_once.specs.Once.{no_runs};
     ghost use Rattle.running_spin_lock.specs.ValueRule.{none_held};
 
     /// A lazy value with this closure, of which nothing is kept, and the pass that is whole. `Err` where there was no memory; then
@@ -43,7 +43,7 @@ impl<T: Drop, F: Drop, A: Allocator + Clone> LazyLock<T, F, Brand, A> {
 impl<T: Drop, F: Drop, G: Gives<T, F>, A: Allocator + Clone> LazyLock<T, F, G, A> {
     ghost use Rattle.running_lazy_lock.specs.LazyShown.{IsLazyPass, known_by, known_of_init};
     ghost use Rattle.running_passes.specs.Views.{first_view};
-    ghost use Rattle.running_once.specs.OnceRule.{no_runs};
+    ghost use Rattle.running_once.specs.Once.{no_runs};
     ghost use Rattle.running_spin_lock.specs.ValueRule.{none_held};
 
     /// The same, where `may` is kept of the closure, and so `gives` is known of the value.

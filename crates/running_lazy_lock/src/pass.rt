@@ -1,5 +1,5 @@
 //! The right to force a lazy value.
-ghost use Rattle.std.specs.Prelude.{◌≡◌, IfOk, IfErr, is_ok, true};
+ghost use Rattle.std.specs.Prelude.{◌≡◌, IfOk, is_ok, true};
 
 use crate::gives::Gives;
 use crate::lazy_lock::LazyLock;
@@ -20,7 +20,7 @@ impl LazyPass {
     ghost use Rattle.running_passes.specs.Parts.{half, IsAgain, IsSamePart, AddUp};
     ghost use Rattle.running_passes.specs.Views.{left_view, right_view, joined_view};
     ghost use Rattle.running_model.specs.Slots.{both_parties};
-    ghost use Rattle.running_once.specs.OnceRule.{known_runs, both_runs};
+    ghost use Rattle.running_once.specs.Once.{known_runs, both_runs};
     ghost use Rattle.running_once.specs.OnceShown.{parties_of_once};
     ghost use Rattle.running_spin_lock.specs.ValueRule.{core_held, both_held};
     ghost use Rattle.running_lazy_lock.specs.LazyShown.{IsLazyPass, once_in, known_by, known_of_init, part_of, part_of_init};

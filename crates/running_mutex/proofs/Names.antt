@@ -1,8 +1,7 @@
 -- What the proofs of this crate read of others, and of its own definitions.
 pub use Rattle.running_mutex.specs.Names.{Call, Answer, Bor, Shared, WaitAction, IsWhole, part_of, counts_of, gave, HasGivenUp, Word, Intent, Coming, MayStep, Parties, View, looked, wrote, view, parties_of, IsShare, Told, sights_after, Beginning, ComesBy, Went, Slot, all_of, mutex_model, HoldKind, spun, MutexPlace, IsRefused, mutex_table, IsSamePass, counted, sum_of, no_holds, both_holds, holds_after, AreHoldsIn, none_played, both_played, core_played, played_add_up, mutex_intent, IsNamed, Continuing, IsHolding, Led, HasCalled, IsGranted, MayTry, IsToWake, sights_of, HasAsked, HasMoved, WasRefused, WasRefusedAt, Holds, min}
 pub use Rattle.running_mutex.specs.CondParties.{IsInside, IsOut, Plays}
-pub use Rattle.running_mutex.specs.CondRule.{WaitsPass, both_waits, went_in, went_out, waits_after, AreWaitsIn, CountIsInside}
-pub use Rattle.running_mutex.specs.CondScript.{waiters_model}
+pub use Rattle.running_mutex.specs.Cond.{WaitsPass, both_waits, went_in, went_out, waits_after, AreWaitsIn, CountIsInside, waiters_model}
 pub use Rattle.running_mutex.specs.CondShown.{waits_in, permits_in, HasPlayedCount, HasNotified, HasGiven, TakesNone, HasSlept, HasLeft, HasRegained}
 pub use Rattle.running_mutex.specs.MutexParties.{HasMutex, Unlocks}
 pub use Rattle.running_mutex.specs.MutexShown.{MutexPass, IsLocked, HasEntered, HasUnlocked, HasPlayed, HasLocked, HasSeenLocked, HasTried, IsAlone, HasPlayedUnlock, holds_of, holds_of as holds_of_pass, Enters, pass_of}

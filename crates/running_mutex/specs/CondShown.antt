@@ -10,7 +10,7 @@ use Rattle.running_mutex.specs.declared.condition_variable.CondResult.{CondResul
 use Rattle.running_mutex.specs.declared.condition_variable.Woken.{Woken}
 use Rattle.running_mutex.specs.declared.condition_variable.Woken.TheVariants.{Signalled, Unsignalled}
 use Rattle.running_mutex.specs.MutexShown.{MutexPass, IsLocked, holds_of}
-use Rattle.running_mutex.specs.CondRule.{WaitsPass, one_more}
+use Rattle.running_mutex.specs.Cond.{WaitsPass, one_more}
 use Rattle.running_mutex.specs.CondParties.{Plays}
 
 -- the two passes inside: that of the count, and that of the permits

@@ -2,9 +2,7 @@ pub mod Names
 pub mod MutexParties
 pub mod MutexSteps
 pub mod MutexShown
-pub mod CondScript
-pub mod CondRule
-pub mod CondTally
+pub mod Cond
 pub mod CondParties
 pub mod CondShown
 pub mod Often

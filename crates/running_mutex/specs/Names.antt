@@ -15,7 +15,7 @@ pub use Rattle.model_waiters.specs.Law.{is_in, is_out, ins_in, outs_in, KeepsWai
 pub use Rattle.model_waiters.specs.declared.WaitersPlace.{WaitersPlace}
 pub use Rattle.running_model.specs.Counts.{HasMoved, WasRefused, HasSeen, HasDone, HasGivenUp, WasRefusedAt}
 pub use Rattle.running_model.specs.Passes.{none_played, both_played, PlaysAndCounts, IsOfARun, counts_of, parties_of, StaysOnNoWord, GoesOnByActs, counted, IsShare, Told, core_played, played_add_up}
-pub use Rattle.running_model.specs.Plays.{IsAt, HasCalled, HasEnded, IsHolding, Coming, Went, act_at, Beginning, MayStep, Continuing, IsStepAt, ComesBy, Led}
+pub use Rattle.running_model.specs.Plays.{IsAt, HasCalled, HasEnded, IsHolding, Coming, Went, Beginning, MayStep, Continuing, ComesBy, Led}
 pub use Rattle.running_model.specs.Sees.{sights_after}
 pub use Rattle.running_model.specs.Slots.{Slot, Parties, all_of}
 pub use Rattle.running_model.specs.Stages.{IsPassOf}
@@ -25,14 +25,14 @@ pub use Rattle.running_model.specs.declared.played.Played.{Played}
 pub use Rattle.running_passes.specs.Answers.{MayAnswerAbort, HasAsked}
 pub use Rattle.running_passes.specs.Parts.{IsWhole}
 pub use Rattle.running_passes.specs.Passes.{IsSamePass, part_of, sights_of, view}
-pub use Rattle.running_passes.specs.Sights.{HasLooked, stale}
-pub use Rattle.running_passes.specs.Views.{sum_of, IsCounted, missed, wrote, looked, view_of}
+pub use Rattle.running_passes.specs.Sights.{HasLooked}
+pub use Rattle.running_passes.specs.Views.{sum_of, IsCounted, missed, wrote, looked}
 pub use Rattle.running_passes.specs.declared.part.Part.{Part}
 pub use Rattle.running_passes.specs.declared.pass.Pass.{Pass}
 pub use Rattle.running_passes.specs.declared.view.View.{View}
 pub use Rattle.running_semaphore.specs.SemaphoreShown.{SemPass, IsSemPass, IsEmpty, HasTaken, worth_of, HasPlayed, HasPlayedPost, initial_of}
 pub use Rattle.running_semaphore.specs.SemaphoreSteps.{gave}
-pub use Rattle.running_tallies.specs.Mutex.{granted, released, AreHoldsIn, both_holds, no_holds, holds, holds_after, mutex_model}
+pub use Rattle.running_tallies.specs.Mutex.{granted, released, AreHoldsIn, both_holds, no_holds, holds_after, mutex_model}
 pub use Rattle.running_tallies.specs.declared.mutex.Holds.{Holds}
 pub use Rattle.running_tallies.specs.declared.mutex.MutexScript.{MutexScript}
 pub use Rattle.std.proofs.Common.{false, cond, refl, arith, zero, suc}

@@ -16,7 +16,7 @@ ghost use Rattle.running_semaphore.specs.SemaphoreShown.{initial_of};
 ghost use Rattle.running_mutex.specs.MutexShown.{IsMutexPass, IsAlone, IsLocked, HasEntered, HasPlayed};
 ghost use Rattle.running_mutex.specs.MutexParties.{HasMutex};
 ghost use Rattle.running_mutex.specs.CondParties.{HasWaitInside};
-ghost use Rattle.running_mutex.specs.CondRule.{CountIsInside};
+ghost use Rattle.running_mutex.specs.Cond.{CountIsInside};
 
 pub use crate::waits::Waits;
 use crate::waits::{PlayedWaits, WaitersScript};
@@ -118,7 +118,7 @@ impl CondPass {
     ghost use Rattle.running_passes.specs.Views.{left_view, right_view, joined_view};
     ghost use Rattle.running_model.specs.Passes.{core_played, both_played};
     ghost use Rattle.running_tallies.specs.Semaphore.{no_permits, both_permits};
-    ghost use Rattle.running_mutex.specs.CondRule.{no_waits, both_waits};
+    ghost use Rattle.running_mutex.specs.Cond.{no_waits, both_waits};
     ghost use Rattle.running_mutex.specs.CondShown.{IsCondPass, waits_in, permits_in};
 
     /// Two passes of the same condition variable. What they counted adds up to what this one had counted, and they weigh together what
@@ -193,7 +193,7 @@ impl<A: Allocator> ConditionVariable<A> {
     ghost use Rattle.running_model.specs.Passes.{played};
     ghost use Rattle.running_tallies.specs.Semaphore.{first_permits};
     ghost use Rattle.running_model.specs.Slots.{Slot, all_of};
-    ghost use Rattle.running_mutex.specs.CondRule.{no_waits, went_in, went_out, one_more};
+    ghost use Rattle.running_mutex.specs.Cond.{no_waits, went_in, went_out, one_more};
     ghost use Rattle.running_mutex.specs.CondParties.{IsInside, IsOut, Plays};
     ghost use Rattle.running_semaphore.specs.SemaphoreShown.{IsSemPass, worth_of, HasTaken, HasPlayed as HasPlayedPermit};
     ghost use Rattle.running_mutex.specs.MutexShown.{HasPlayedUnlock};

@@ -88,7 +88,7 @@ impl Called<u64> for UnlockCall {
 
 impl<A: Allocator> Mutex<A> {
     ghost use Rattle.std.specs.Borrow.{sem};
-    ghost use Rattle.std.specs.Prelude.{true, false, ◌+◌, [], ◌∷◌, Some, None, MatchBool};
+    ghost use Rattle.std.specs.Prelude.{true, ◌+◌, [], ◌∷◌, Some, None, MatchBool};
     ghost use Rattle.model_events.specs.declared.event.Word.TheVariants as words;
     ghost use Rattle.model_events.specs.declared.event.Call.TheVariants as calls;
     ghost use Rattle.model_events.specs.declared.event.Answer.TheVariants as answers;

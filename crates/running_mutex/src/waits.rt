@@ -10,7 +10,7 @@ pub struct WaitersScript;
 impl Script<(), WaitersPlace, u64> for WaitersScript {
     ghost use Rattle.std.specs.Prelude.{[], ◌∷◌};
     ghost use Rattle.model_events.specs.declared.event.Word.TheVariants as words;
-    ghost use Rattle.running_mutex.specs.CondScript.{waiters_model, waiters_lawful};
+    ghost use Rattle.running_mutex.specs.Cond.{waiters_model, waiters_lawful};
 
     ghost model = { λ _. waiters_model };
 
@@ -35,8 +35,7 @@ pub struct Waits {
 }
 
 impl Tally for Waits {
-    ghost use Rattle.running_mutex.specs.CondRule.{no_waits, both_waits};
-    ghost use Rattle.running_mutex.specs.CondTally.{waits_add_up};
+    ghost use Rattle.running_mutex.specs.Cond.{no_waits, both_waits, waits_add_up};
 
     ghost none = { no_waits };
 
@@ -49,7 +48,7 @@ impl Tally for Waits {
 
 /// The run alone says what all passes count.
 impl Rule<(), ()> for Waits {
-    ghost use Rattle.running_mutex.specs.CondRule.{no_waits};
+    ghost use Rattle.running_mutex.specs.Cond.{no_waits};
 
     ghost first = { λ _. no_waits };
 
@@ -59,8 +58,7 @@ impl Rule<(), ()> for Waits {
 /// All passes counted in and out what the acts of the run did.
 impl Counts<(), u64> for Waits {
     ghost use Rattle.std.proofs.Common.{refl};
-    ghost use Rattle.running_mutex.specs.CondRule.{AreWaitsIn};
-    ghost use Rattle.running_mutex.specs.CondTally.{waits_stay};
+    ghost use Rattle.running_mutex.specs.Cond.{AreWaitsIn, waits_stay};
 
     ghost follow = { λ _. AreWaitsIn };
 
@@ -72,8 +70,7 @@ impl Counts<(), u64> for Waits {
 impl CountsByActs<(), WaitersScript, WaitersPlace, u64> for Waits {
     ghost use Rattle.std.proofs.Common.{refl};
     ghost use Rattle.running_model.specs.Sees.{sights_after};
-    ghost use Rattle.running_mutex.specs.CondRule.{waits_after};
-    ghost use Rattle.running_mutex.specs.CondTally.{waits_go_on};
+    ghost use Rattle.running_mutex.specs.Cond.{waits_after, waits_go_on};
 
     ghost free = { λ _ _ _ _ _ _. tt };
 

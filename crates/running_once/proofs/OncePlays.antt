@@ -1,5 +1,5 @@
 -- The steps of a once are those of its table.
-use Rattle.running_once.proofs.Names.{MatchBool, Word, Call, Answer, Intent, OncePlace, once_intent, Slot, Parties, all_of, Coming, Going, Beginning, Aside, ComesBy, Led, HasCalled, MayStep, Went, ◌≡◌, ◌≢◌, ℕ, ◌==◌, Bool, true, false, refl, subst, List, [], ◌∷◌, None, is_over, once_model, IsOver, IsToEnd, ComesToBegin, IsRunning, ComesToStay, HasLeft, arith, nat_tests, eqb-true, eqb-false}
+use Rattle.running_once.proofs.Names.{MatchBool, Word, Call, Answer, Intent, OncePlace, once_intent, Slot, Parties, all_of, Coming, Going, Beginning, Aside, ComesBy, Led, HasCalled, MayStep, Went, ◌≡◌, ◌≢◌, ℕ, ◌==◌, Bool, true, false, refl, sym, subst, List, [], ◌∷◌, None, is_over, PlayedPass, parties_of, once_model, IsOver, IsToEnd, ComesToBegin, IsRunning, ComesToStay, HasLeft, arith, nat_tests, eqb-true, eqb-false}
 
 abbrev Comes : Coming ℕ → Call ℕ → OncePlace → List (Slot ℕ) → Parties ℕ → Type 0
 Comes way call place done p = ComesBy once_model way call place None done p
@@ -59,6 +59,9 @@ stays found done p q h1 h2 h3 = grind (arith, nat_tests, eqb-true, eqb-false)
 
 pub is_to_end : (done : List (Slot ℕ)) (p : Parties ℕ) → IsRunning done p → IsToEnd once_model p
 is_to_end done p at = record { call = Call.CallOnce; place = OncePlace.Run; hold = None; done = done; at = at; ends = refl }
+
+pub runs_still : (done : List (Slot ℕ)) (p q : PlayedPass) → q ≡ p → IsRunning done (parties_of p) → IsRunning done (parties_of q)
+runs_still done p q still at = subst (λ (r : PlayedPass). IsRunning done (parties_of r)) (sym still) at
 
 has_run : (done : List (Slot ℕ)) (p : Parties ℕ) → IsRunning done p → Comes Aside Call.CallOnce OncePlace.Complete done p
 has_run done p at = record { from = OncePlace.Run; at = at; aside = tt; leads = refl }

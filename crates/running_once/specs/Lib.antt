@@ -1,7 +1,5 @@
 pub mod Names
-pub mod OnceScript
-pub mod OnceRule
-pub mod OnceTally
+pub mod Once
 pub mod OnceParties
 pub mod OnceShown
 pub mod OnceLaws

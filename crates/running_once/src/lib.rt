@@ -7,13 +7,13 @@
 ghost use Rattle.std.specs.Prelude.{◌≡◌, ℕ, IfOk};
 ghost use Rattle.running_model.specs.Passes.{counts_of};
 ghost use Rattle.running_model.specs.Stages.{count_of};
-ghost use Rattle.running_once.specs.OnceRule.{ClosuresAreOfARun, OneClosure, KnownHasEnded};
+ghost use Rattle.running_once.specs.Once.{ClosuresAreOfARun, OneClosure, KnownHasEnded};
 ghost use Rattle.running_once.specs.OnceLaws.{DoneComesAfterTheEnd, TrueComesAfterTheEnd};
 
 mod shares;
 
 use model_once::{OncePlace, begun};
-use running_model::turn::{AfterAside, Called, Goes, Turn, Way, begin_new};
+use running_model::turn::{Called, Goes, Turn, Way, begin_new};
 use running_model::{Counts, CountsByActs, Played, Script, Stage};
 use running_passes::{Pass, Rule, Tally};
 use std::alloc::{AllocError, Allocator, Global};
@@ -26,7 +26,7 @@ pub struct OnceScript;
 impl Script<(), OncePlace, u64> for OnceScript {
     ghost use Rattle.std.specs.Prelude.{[], ◌∷◌};
     ghost use Rattle.model_events.specs.declared.event.Word.TheVariants as words;
-    ghost use Rattle.running_once.specs.OnceScript.{once_model, once_lawful};
+    ghost use Rattle.running_once.specs.Once.{once_model, once_lawful};
 
     ghost model = { λ _. once_model };
 
@@ -53,8 +53,7 @@ pub struct Runs {
 }
 
 impl Tally for Runs {
-    ghost use Rattle.running_once.specs.OnceRule.{no_runs, both_runs, known_runs};
-    ghost use Rattle.running_once.specs.OnceTally.{runs_add_up};
+    ghost use Rattle.running_once.specs.Once.{no_runs, both_runs, known_runs, runs_add_up};
 
     ghost none = { no_runs };
 
@@ -67,7 +66,7 @@ impl Tally for Runs {
 
 /// The run alone says what all passes count and know.
 impl Rule<(), ()> for Runs {
-    ghost use Rattle.running_once.specs.OnceRule.{no_runs};
+    ghost use Rattle.running_once.specs.Once.{no_runs};
 
     ghost first = { λ _. no_runs };
 
@@ -76,8 +75,7 @@ impl Rule<(), ()> for Runs {
 
 /// All passes together began as many closures as the run has, and completed as many.
 impl Counts<(), u64> for Runs {
-    ghost use Rattle.running_once.specs.OnceRule.{AreRunsIn};
-    ghost use Rattle.running_once.specs.OnceTally.{runs_open, runs_stay};
+    ghost use Rattle.running_once.specs.Once.{AreRunsIn, runs_open, runs_stay};
 
     ghost follow = { λ _. AreRunsIn };
 
@@ -89,8 +87,7 @@ impl Counts<(), u64> for Runs {
 impl CountsByActs<(), OnceScript, OncePlace, u64> for Runs {
     ghost use Rattle.std.proofs.Common.{refl};
     ghost use Rattle.running_model.specs.Sees.{sights_after};
-    ghost use Rattle.running_once.specs.OnceRule.{runs_after, runs_needed};
-    ghost use Rattle.running_once.specs.OnceTally.{runs_go_on};
+    ghost use Rattle.running_once.specs.Once.{runs_after, runs_needed, runs_go_on};
 
     ghost free = { λ _ _ _ _ _ _. tt };
 
@@ -160,7 +157,7 @@ impl OncePass {
     ghost use Rattle.running_passes.specs.Parts.{half, IsAgain, IsSamePart, AddUp};
     ghost use Rattle.running_passes.specs.Views.{left_view, right_view, joined_view};
     ghost use Rattle.running_model.specs.Slots.{no_parties, both_parties};
-    ghost use Rattle.running_once.specs.OnceRule.{both_runs, known_runs};
+    ghost use Rattle.running_once.specs.Once.{both_runs, known_runs};
     ghost use Rattle.running_once.specs.OnceShown.{IsOncePass, known_by, parties_of_once, part_of_once};
 
     /// Two passes of the same once. What they counted adds up to what this one had counted, and both know what it knew; they weigh
@@ -206,12 +203,12 @@ impl OncePass {
 
 impl<A: Allocator> Once<A> {
     ghost use Rattle.std.specs.Fn.{FnOnceTakesAtMut, FnOnceReturnsAtMut};
-    ghost use Rattle.std.specs.Prelude.{IfSome, IfNone, None, true, false, ◌+◌, ◌*◌, ◌<◌, ◌≢◌, MatchBool, List, [], ◌∷◌};
+    ghost use Rattle.std.specs.Prelude.{IfSome, IfNone, None, true, false, ◌<◌, ◌≢◌, MatchBool, List, [], ◌∷◌};
     ghost use Rattle.model_events.specs.declared.event.Word.TheVariants as words;
     ghost use Rattle.model_events.specs.declared.event.Call.TheVariants as calls;
     ghost use Rattle.model_events.specs.declared.event.Answer.TheVariants as answers;
     ghost use Rattle.model_events.specs.declared.row.Intent.TheVariants as intents;
-    ghost use Rattle.running_once.specs.OnceScript.{once_model};
+    ghost use Rattle.running_once.specs.Once.{once_model, no_runs, ended, Amounts, Loaded};
     ghost use Rattle.running_passes.specs.Parts.{IsWhole};
     ghost use Rattle.running_passes.specs.Views.{first_view};
     ghost use Rattle.running_passes.specs.Sights.{HasLooked};
@@ -221,7 +218,6 @@ impl<A: Allocator> Once<A> {
     ghost use Rattle.running_model.specs.Passes.{parties_of, counted};
     ghost use Rattle.running_model.specs.Counts.{HasDone};
     ghost use Rattle.running_model.specs.Stages.{IsPassOf};
-    ghost use Rattle.running_once.specs.OnceRule.{no_runs, ended, Amounts, Loaded};
     ghost use Rattle.running_once.specs.OnceParties.{ComesToBegin, IsRunning, ComesToStay, HasLeft, WhereBegins, WhereRuns, WhereStays};
     ghost use Rattle.running_once.specs.OnceShown.{CompletesWithin, SeesOnceWithin, IsOncePass, IsComplete, HasSeenOnce, HasCompleted, HasBegun, HasOnlyWaited, HasPlayed, IsTaken, given_by, known_by, parties_of_once, part_of_once, sights_of_once, ended_of};
 
@@ -328,8 +324,7 @@ impl<A: Allocator> Once<A> {
         }
         let (is_first, tried) = self.begin(turn);
         if is_first {
-            let (given, ended) = tried.run(&self.stage, on, f);
-            let done = self.end(ended);
+            let (given, done) = self.run(tried, on, f);
             let _pass = done.end(&self.stage);
             return Some(given);
         }
@@ -428,20 +423,26 @@ impl<A: Allocator> Once<A> {
         (found == 0, next)
     }
 
-    /// A store of 2, by the pass whose closure has ended.
+    /// Runs the closure that has begun, and then stores 2. What it gave.
     #[inline(always)]
-    fn end<'p>(
+    fn run<'p, X, Y, F: FnOnce(&mut X) -> Y>(
         &self,
-        turn: Turn<'p, Pass<PlayedOnce>, AfterAside>,
-    ) -> Turn<'p, Pass<PlayedOnce>, Goes>
+        turn: Turn<'p, Pass<PlayedOnce>, Goes>,
+        on: &mut X,
+        f: F,
+    ) -> (Y, Turn<'p, Pass<PlayedOnce>, Goes>)
         requires own { IsPassOf self.now.stage turn.pass.now }
         requires on { (counts_of turn.pass.now).running ≡ 1 }
         requires runs { (done : List (Slot ℕ)) × IsRunning done (parties_of turn.pass.now) }
-        ensures same_borrow { result.pass.ghost_name ≡ turn.entry.pass.ghost_name }
-        ensures ended { HasDone ended turn.entry.pass.now result.pass.now }
-        ensures left { WhereRuns (parties_of turn.entry.pass.now) (λ done. HasLeft done (parties_of result.pass.now)) }
+        requires may { FnOnceTakesAtMut F.FnOnce f on.old }
+        ensures same_borrow { result.1.pass.ghost_name ≡ turn.entry.pass.ghost_name }
+        ensures ran { FnOnceReturnsAtMut F.FnOnce f on.old result.0 on.new }
+        ensures ended { HasDone ended turn.entry.pass.now result.1.pass.now }
+        ensures left { WhereRuns (parties_of turn.entry.pass.now) (λ done. HasLeft done (parties_of result.1.pass.now)) }
     {
-        turn.store(&self.stage, 0, COMPLETE)
+        let (given, over) = turn.run(&self.stage, on, f);
+        let done = over.store(&self.stage, 0, COMPLETE);
+        (given, done)
     }
 }
 

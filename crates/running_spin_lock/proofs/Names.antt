@@ -13,10 +13,9 @@ pub use Rattle.running_spin_lock.specs.declared.guard.SpinLockGuard.{SpinLockGua
 pub use Rattle.running_spin_lock.specs.ValueSteps.{has_vacant_slot, OnlySees, Locks, Lets, Sees, HasValue, Enters}
 pub use Rattle.running_spin_lock.specs.SpinParties.{HasLock, IsWaiting, IsSpinning, IsGranted, Unlocks}
 pub use Rattle.running_spin_lock.specs.SpinShown.{guard_with}
-pub use Rattle.running_spin_lock.specs.SpinLawful.{spin_model, spin_is_for_one}
+pub use Rattle.running_spin_lock.specs.Spin.{spin_model, spin_is_for_one, SpinView}
 pub use Rattle.running_model.specs.Turns.{IsOver}
 pub use Rattle.running_model.proofs.Holding.{holding_told, holding_is}
-pub use Rattle.running_spin_lock.specs.SpinRule.{SpinView}
 pub use Rattle.running_spin_lock.specs.SpinSteps.{HasPlayed, HasPlayedUnlock}
 pub use Rattle.std.specs.Option.{IsSome}
 pub use Rattle.running_passes.specs.Tallies.{IsTally}

@@ -1,5 +1,5 @@
 -- What was seen over several tries of a lock that guards a value.
-use Rattle.running_spin_lock.proofs.Names.{Sights, View, Played, Holds, ◌≡◌, ℕ, ◌+◌, refl, arith, Locks, Sees, Enters, OnlySees, nat_tests, eqb-true, eqb-false}
+use Rattle.running_spin_lock.proofs.Names.{Sights, View, Played, Holds, ◌≡◌, ℕ, ◌+◌, arith, Locks, Sees, Enters, OnlySees, nat_tests, eqb-true, eqb-false}
 
 module _ {M Q : Type 0} where
   -- one try, by which one more sight is counted

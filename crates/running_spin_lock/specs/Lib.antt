@@ -2,8 +2,7 @@ pub mod Names
 pub mod ValueRule
 pub mod ValueSteps
 pub mod ValueMoves
-pub mod SpinLawful
-pub mod SpinRule
+pub mod Spin
 pub mod SpinParties
 pub mod SpinSteps
 pub mod SpinShown

@@ -5,7 +5,7 @@ use Rattle.running_spin_lock.specs.declared.guard.SpinLockGuard.{SpinLockGuard}
 use Rattle.running_spin_lock.specs.declared.spin_lock.SpinLock.{SpinLock}
 use Rattle.running_spin_lock.specs.ValueRule.{view_in}
 use Rattle.running_spin_lock.specs.ValueSteps.{Locks, Lets, Enters}
-use Rattle.running_spin_lock.specs.SpinRule.{SpinView}
+use Rattle.running_spin_lock.specs.Spin.{SpinView}
 use Rattle.running_spin_lock.specs.SpinSteps.{SeesLocked}
 
 -- which lock the pass belongs to, and which of its passes it is

@@ -1,8 +1,7 @@
 -- What a step on the word of a spin lock changes in what a seat knows, and what the seat is in the model.
 use Rattle.running_spin_lock.specs.Names.{ℕ, Option, Some, Call, Answer, HoldKind, seen, Parties, HasCalled}
-use Rattle.running_spin_lock.specs.SpinLawful.{spin_model}
+use Rattle.running_spin_lock.specs.Spin.{spin_model, SpinView}
 use Rattle.running_spin_lock.specs.ValueSteps.{Sees, Plays}
-use Rattle.running_spin_lock.specs.SpinRule.{SpinView}
 use Rattle.running_spin_lock.specs.SpinParties.{Unlocks}
 
 -- a swap of 1 found the lock taken: one more sight, at 1

@@ -10,7 +10,7 @@ pub struct SpinScript;
 impl Script<(), SpinPlace, u64> for SpinScript {
     ghost use Rattle.std.specs.Prelude.{[], ◌∷◌};
     ghost use Rattle.model_events.specs.declared.event.Word.TheVariants as words;
-    ghost use Rattle.running_spin_lock.specs.SpinLawful.{spin_model, spin_lawful};
+    ghost use Rattle.running_spin_lock.specs.Spin.{spin_model, spin_lawful};
 
     ghost model = { λ _. spin_model };
 
@@ -26,7 +26,7 @@ impl Script<(), SpinPlace, u64> for SpinScript {
 
 impl ForOne<SpinPlace> for SpinScript {
     ghost use Rattle.std.proofs.Common.{refl};
-    ghost use Rattle.running_spin_lock.specs.SpinLawful.{spin_is_for_one};
+    ghost use Rattle.running_spin_lock.specs.Spin.{spin_is_for_one};
 
     ghost one_word = { refl };
 

@@ -1,18 +1,17 @@
 //! The lock itself.
-ghost use Rattle.std.specs.Prelude.{◌≡◌, ℕ, ◌<◌, List, [], ◌∷◌, IfOk, IfErr, IfSome, IsSome, Some, None, is_ok, true, false, MatchBool};
+ghost use Rattle.std.specs.Prelude.{◌≡◌, ℕ, ◌<◌, List, [], ◌∷◌, IfOk, IfErr, IfSome, IsSome, Some, None, is_ok, true, MatchBool};
 ghost use Rattle.model_events.specs.declared.event.Word.TheVariants as words;
 ghost use Rattle.model_events.specs.declared.event.Call.TheVariants as calls;
 ghost use Rattle.model_events.specs.declared.event.Answer.TheVariants as answers;
 ghost use Rattle.model_events.specs.declared.hold.HoldKind.TheVariants as kinds;
 ghost use Rattle.model_events.specs.declared.row.Intent.TheVariants as intents;
-ghost use Rattle.running_spin_lock.specs.SpinLawful.{spin_model};
+ghost use Rattle.running_spin_lock.specs.Spin.{spin_model, GrantsAreOfARun, OneHolderAtMost};
 ghost use Rattle.running_passes.specs.Parts.{IsWhole};
 ghost use Rattle.running_passes.specs.Views.{first_view};
 ghost use Rattle.running_model.specs.Slots.{Slot};
 ghost use Rattle.running_model.specs.Plays.{Beginning, MayStep};
 ghost use Rattle.running_spin_lock.specs.ValueRule.{none_held};
 ghost use Rattle.running_spin_lock.specs.ValueSteps.{Locks, Lets, Enters, Tries, HasValue, has_vacant_slot};
-ghost use Rattle.running_spin_lock.specs.SpinRule.{GrantsAreOfARun, OneHolderAtMost};
 ghost use Rattle.running_spin_lock.specs.SpinParties.{IsWaiting, IsSpinning, IsGranted, HasLock};
 ghost use Rattle.running_spin_lock.specs.SpinSteps.{SeesLocked, HasPlayed, HasPlayedUnlock};
 

@@ -4,7 +4,7 @@ mod gives;
 ghost use Rattle.std.specs.Prelude.{◌≡◌, IfOk};
 ghost use Rattle.running_passes.specs.Parts.{IsWhole};
 ghost use Rattle.running_passes.specs.Views.{first_view};
-ghost use Rattle.running_once.specs.OnceRule.{no_runs};
+ghost use Rattle.running_once.specs.Once.{no_runs};
 ghost use Rattle.running_spin_lock.specs.ValueRule.{none_held};
 ghost use Rattle.running_spin_lock.specs.SpinShown.{grants_of};
 ghost use Rattle.running_lazy_lock.specs.LazyShown.{IsLazyPass, IsComplete, HasForced, known_by, known_of_init, init_in, ended_of, part_of};

@@ -1,6 +1,12 @@
--- What a pass of a once counts and knows, the rule over all passes, and what a step changes.
-use Rattle.running_once.specs.Names.{◌≡◌, ℕ, ◌+◌, ◌*◌, ◌≤◌, Bool, true, false, ◌||◌, ◌==◌, List, [], ◌∷◌, Word, Call, Act, Event, OncePlace, once_table, begins_in, ends_in, View, IsWhole, total, view_of, looked, IsCounted, sum_of, Played, none_played, both_played, PlaysAndCounts, IsOfARun, some, get_elem?, State, word_in, acts_in, Runs, OnceScript}
-use Rattle.running_once.specs.OnceScript.{once_model}
+-- What the passes of a once count and know, the model that a once plays, the rule over all passes, and that the counts follow the run.
+use Rattle.running_once.specs.Names.{ℕ, List, Event, OncePlace, once_table, KeepsOnce, u64_arithmetic, Model, IsPast, keeps_once, ◌≡◌, ◌+◌, ◌*◌, ◌≤◌, Bool, true, false, ◌||◌, ◌==◌, [], ◌∷◌, Word, Call, Act, begins_in, ends_in, View, IsWhole, total, view_of, looked, IsCounted, sum_of, Played, none_played, both_played, PlaysAndCounts, IsOfARun, some, get_elem?, State, word_in, acts_in, Runs, OnceScript, cond, refl, ◌∙◌, arith, eqb-true, eqb-false, nat_tests, word_after, carried_out, once_intent, is_begin, is_end, StaysOnNoWord, GoesOnByActs, IsTally}
+
+abbrev pub once_model : Model ℕ OncePlace
+once_model = record { arithmetic = u64_arithmetic; table = once_table; law = KeepsOnce }
+
+-- every run keeps the once's law
+pub once_lawful : (parties : ℕ) (past : List (Event ℕ)) → IsPast u64_arithmetic once_table parties past → KeepsOnce past
+once_lawful parties past run = keeps_once u64_arithmetic parties past run
 
 abbrev pub runs : ℕ → ℕ → Bool → Runs
 runs running ended complete = record { running = running; ended = ended; complete = complete }
@@ -95,3 +101,27 @@ pub record Says (v : View Runs) (found : ℕ) : Type 0 where
 pub record Loaded (v : View Runs) (found : ℕ) (w : View Runs) : Type 0 where
   pub says : Says v found
   pub saw : w ≡ learns found (looked v found)
+
+pub runs_add_up : IsTally no_runs both_runs known_runs
+runs_add_up = grind (arith, nat_tests, eqb-true, eqb-false)
+
+pub runs_open : AreRunsIn [] no_runs
+runs_open = record { word = refl; begun = refl; completed = refl; over = omega arith; known = λ known. absurd cc }
+
+-- acts on no word
+
+pub runs_stay : StaysOnNoWord AreRunsIn
+runs_stay = grind (arith, nat_tests, eqb-true, eqb-false)
+
+-- steps on the word
+
+-- The run begins one closure at most, and its word is 2 only after the end.
+goes : (place : OncePlace) (call : Call ℕ) (memory : Word → ℕ) (t rest : Runs) (begins completions ends : ℕ) (act : Act ℕ) → act ≡ carried_out (once_intent Word.State place) memory → AreRuns (memory Word.State) begins completions ends (both_runs t rest) →
+    runs_needed act t → cond (is_begin act) 1 0 + begins ≤ 1 → (word_after Word.State act (memory Word.State) ≡ 2 → cond (is_end act) 1 0 + ends ≡ 1) →
+    AreRuns (word_after Word.State act (memory Word.State)) (cond (is_begin act) 1 0 + begins) (cond (is_completion act) 1 0 + completions) (cond (is_end act) 1 0 + ends) (both_runs (runs_after act call t) rest)
+goes place call memory t rest begins completions ends act h1 h2 h3 h4 h5 = grind (arith, nat_tests, eqb-true, eqb-false)
+
+pub runs_go_on : GoesOnByActs once_model both_runs AreRunsIn (λ _ _. runs_after) runs_needed
+runs_go_on call place hold past e found step t rest needs is =
+    let law = (once_lawful step.parties (e ∷ past) step.run).law in
+    goes place call (word_in once_table past) t rest _ _ _ e.act (step.act ∙ step.found_is) is needs law.one law.state.ended
