@@ -1,5 +1,5 @@
 //! Groups, each with a title.
-ghost use Rattle.std.specs.Prelude.{◌≡◌, ◌++◌, ◌∷◌, [], ℕ, List, OnOk, string_bytes};
+ghost use Rattle.std.specs.Prelude.{◌++◌, ◌∷◌, [], ℕ, List, OnOk, string_bytes};
 ghost use Rattle.draw_markup.specs.Tree.{IsMarkup};
 ghost use Rattle.draw_markup.specs.Group.{titles_of};
 

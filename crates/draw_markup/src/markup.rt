@@ -1,5 +1,5 @@
 //! Markup: text and closed elements, one after the other.
-ghost use Rattle.std.specs.Prelude.{◌≡◌, [], string_bytes};
+ghost use Rattle.std.specs.Prelude.{[], string_bytes};
 ghost use Rattle.draw_markup.specs.Tree.{IsMarkup};
 
 use crate::words::Words;

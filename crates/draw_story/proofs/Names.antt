@@ -1,5 +1,5 @@
 -- What several files of the proofs read.
-pub use Rattle.std.proofs.Common.{◌≡◌, ℕ, zero, suc, ◌+◌, ◌-◌, ◌<◌, ◌≤◌, min, Result, List, [], ◌∷◌, ◌++◌, length, get_or, map, take, Option, Some, None, Ok, Err, refl, sym, ap, subst, ◌∙◌, arith, IfOk, rules}
+pub use Rattle.std.proofs.Common.{◌≡◌, ℕ, zero, suc, ◌+◌, ◌-◌, ◌<◌, ◌≤◌, min, Result, List, [], ◌∷◌, ◌++◌, length, get_or, map, take, Option, Some, None, Ok, Err, refl, sym, ap, subst, ◌∙◌, arith, IfOk}
 pub use Rattle.std.proofs.lemmas.List.{take_more, map-append, length-take, length-take-le, length-append, take_all}
 pub use Rattle.text_lines.specs.Lexer.{lines_of}
 pub use Rattle.sync_play.proofs.PlayLaws.{text_walk, opens_none}

@@ -1,5 +1,5 @@
 -- When a wait closure is asked, from the step at each place.
-use Rattle.model_events.proofs.Names.{eqb-true, eqb-false, nat_tests, ◌≡◌, ◌≤◌, ℕ, Bool, true, List, [], ◌∷◌, Option, Some, None, arith, MatchOption, Arithmetic, refused, within, outcome_of, Table, PendingCall, call_of, hold_of, IsPast, keeps_asking, spins_in, WhereAsked, SpinCount, SpinsNoMore, but_last_try, Waiting, WaitsAs, Act, Event, Then, HoldKind, Patience}
+use Rattle.model_events.proofs.Names.{eqb-true, eqb-false, nat_tests, ◌≡◌, ◌≤◌, ℕ, Bool, true, List, [], ◌∷◌, Option, Some, None, arith, MatchOption, Arithmetic, refused, within, outcome_of, Table, PendingCall, call_of, hold_of, IsPast, keeps_asking, spins_in, WhereAsked, SpinCount, SpinsNoMore, but_last_try, Waiting, WaitsAs, Act, Event, HoldKind, Patience}
 use Rattle.model_events.proofs.Spins.{HasSpun}
 use Rattle.model_events.proofs.Parties.{IsKept, IsAtPlace, each_call}
 

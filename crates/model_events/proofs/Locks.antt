@@ -1,5 +1,5 @@
 -- A lock for one holder: an object whose locking exchange puts 1 in the place of 0, and whose release stores 0.
-use Rattle.model_events.proofs.Names.{nat_tests, ◌≡◌, ◌≢◌, ℕ, refl, true, cond, is_some, List, [], ◌∷◌, Option, Some, ◌⊎◌, inl, ◌↔◌, arith, eqb-true, eqb-false, Arithmetic, carried_out, Table, Hold, PendingCall, call_of, holds_of, hold_of, hold_among, word_in, word_after, without, with_hold, is_release, hold_taken, Move, stage_of, IsPast, IsExclusive, IsLocked, Word, Act, Event, HoldKind, Intent}
+use Rattle.model_events.proofs.Names.{nat_tests, ◌≡◌, ℕ, refl, true, cond, is_some, List, [], ◌∷◌, Option, Some, ◌⊎◌, inl, ◌↔◌, arith, eqb-true, eqb-false, Arithmetic, carried_out, Table, Hold, PendingCall, call_of, holds_of, hold_of, hold_among, word_in, word_after, without, with_hold, is_release, hold_taken, Move, stage_of, IsPast, IsExclusive, Word, Act, Event, HoldKind, Intent}
 use Rattle.model_events.proofs.Steps.{by_move}
 
 -- what a step of such an object may do to the lock's word: take the lock, as far as its call grants a write hold, or release it with a hold

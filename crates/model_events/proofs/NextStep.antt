@@ -1,7 +1,6 @@
 -- That each step of a run is its call's next, from the step at each place.
-use Rattle.model_events.proofs.Names.{eqb-true, eqb-false, nat_tests, ◌≡◌, ◌∙◌, ℕ, ◌+◌, ◌≤◌, ◌<◌, refl, Bool, List, [], ◌∷◌, Option, Some, None, arith, MatchBool, MatchOption, Arithmetic, carried_out, value_told, outcome_of, place_after, within, refused, Table, PendingCall, call_of, hold_of, word_in, Move, stage_of, step_at, is_step, IsPast, acts_in, spins_in, StepsAs, refused_waiting, EndsWithin, WaitAction, Word, Call, Act, Event, Then, HoldKind, Patience}
+use Rattle.model_events.proofs.Names.{◌≡◌, ◌∙◌, ℕ, ◌+◌, ◌≤◌, ◌<◌, refl, List, [], ◌∷◌, Option, Some, None, arith, MatchBool, MatchOption, Arithmetic, carried_out, value_told, place_after, Table, PendingCall, call_of, hold_of, word_in, Move, stage_of, step_at, is_step, IsPast, acts_in, StepsAs, EndsWithin, WaitAction, Word, Call, Act, Event, Then, HoldKind}
 use Rattle.model_events.proofs.Steps.{by_move, carried_is_step}
-use Rattle.model_events.proofs.Spins.{HasSpun}
 use Rattle.model_events.proofs.Parties.{IsKept, IsAtPlace, at_place, each_call}
 
 module _ {T P : Type 0} (z : Arithmetic T) (t : Table T P) (parties : ℕ) (At : P → PendingCall T → Option HoldKind → Type 0) (Next : Call T → List (Event T) → Act T → Then T → Type 0) where

@@ -1,5 +1,5 @@
 -- How a waiting call counts its spins, and knows whether it keeps on asking.
-use Rattle.model_events.proofs.Names.{eqb-true, eqb-false, ◌≡◌, ℕ, ◌+◌, ◌≤◌, refl, Bool, true, false, ◌&&◌, List, [], ◌∷◌, Some, None, arith, nat_lt, MatchBool, nat_tests, is_continue, answered, refused, within, outcome_of, place_after, event, answer_fault, keeps_asking, spins_in, is_abort, stands_at_wait, is_refusal, WaitAction, Act, Event, Then, Patience}
+use Rattle.model_events.proofs.Names.{eqb-true, eqb-false, ◌≡◌, ℕ, ◌+◌, ◌≤◌, refl, Bool, true, false, ◌&&◌, List, [], ◌∷◌, arith, nat_lt, MatchBool, nat_tests, is_continue, refused, within, outcome_of, event, keeps_asking, spins_in, is_abort, is_refusal, WaitAction, Act, Event, Then, Patience}
 
 -- the own events of a call whose place has this patience, where such acts are tries in vain
 pub record HasSpun {T : Type 0} (in_vain : Act T → Bool) (patience : Patience) (own : List (Event T)) : Type 0 where

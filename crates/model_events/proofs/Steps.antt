@@ -1,5 +1,5 @@
 -- What an event is, at any table: by its input, with the form of its input, and telling what the memory holds.
-use Rattle.model_events.proofs.Names.{eqb-true, eqb-false, nat_tests, ◌≡◌, refl, ◌∙◌, ℕ, true, List, [], ◌∷◌, Option, Some, arith, Arithmetic, carried_out, value_told, place_after, Table, PendingCall, word_after, call_of, call_going_on, hold_of, word_in, HasForm, Move, stage_of, stage_after, step_at, move_of, is_step, IsPast, IsTold, TellsMemory, is_apart, Lacks, WaitAction, Word, Call, Act, Event, Input, Then, HoldKind, Intent}
+use Rattle.model_events.proofs.Names.{eqb-true, eqb-false, nat_tests, ◌≡◌, refl, ◌∙◌, ℕ, true, List, [], ◌∷◌, Option, Some, arith, Arithmetic, carried_out, value_told, place_after, Table, PendingCall, word_after, call_of, call_going_on, hold_of, word_in, HasForm, Move, stage_of, stage_after, step_at, move_of, is_step, IsPast, TellsMemory, is_apart, Lacks, WaitAction, Word, Call, Act, Event, Input, Then, HoldKind, Intent}
 
 -- A step that is carried out.
 

@@ -5,10 +5,8 @@ pub use Rattle.model_events.specs.declared.event.Answer.{Answer}
 pub use Rattle.model_events.specs.declared.event.Call.{Call}
 pub use Rattle.model_events.specs.declared.event.Event.{Event}
 pub use Rattle.model_events.specs.declared.event.Input.{Input}
-pub use Rattle.model_events.specs.declared.event.Object.{Object}
 pub use Rattle.model_events.specs.declared.event.StepFault.{StepFault}
 pub use Rattle.model_events.specs.declared.event.Then.{Then}
-pub use Rattle.model_events.specs.declared.event.Wake.{Wake}
 pub use Rattle.model_events.specs.declared.event.Word.{Word}
 pub use Rattle.model_events.specs.declared.hold.HoldKind.{HoldKind}
 pub use Rattle.model_events.specs.declared.patience.Patience.{Patience}

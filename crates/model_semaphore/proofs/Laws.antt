@@ -1,5 +1,5 @@
 -- A semaphore keeps its law at every prefix of every run.
-use Rattle.model_semaphore.proofs.Names.{◌≡◌, ℕ, ◌+◌, ◌≤◌, ◌<◌, ◌^◌, refl, true, false, List, [], ◌∷◌, Option, Some, None, inl, arith, eqb-true, eqb-false, nat_tests, Descends, ends_within, no_holds, exclusive_unheld, by_move, tells_memory, IsKept, at_place, waits_first, waits_as, spins_no_more, IfSome, MatchBool, MatchOption, is_some, WaitAction, Word, Call, Act, Event, Then, place_after, same_word, PendingCall, call_of, hold_of, word_in, word_after, event, Move, step_at, is_step, sight_of, keeps_asking, last_of, WhereAsked, is_apart, Lacks, is_refusal, SemaphorePlace, semaphore_table, semaphore_begins, semaphore_intent, semaphore_after, semaphore_answered, permits_given, permits_taken, is_take, number_answered, semaphore_gives, semaphore_value, SemaphoreCause, wait_spins, permits_seen, SemaphoreStep, KeepsSemaphore, semaphore_most, semaphore_waiting}
+use Rattle.model_semaphore.proofs.Names.{◌≡◌, ℕ, ◌+◌, ◌≤◌, ◌<◌, ◌^◌, refl, true, false, List, [], ◌∷◌, Option, Some, None, inl, arith, eqb-true, eqb-false, nat_tests, Descends, ends_within, no_holds, exclusive_unheld, by_move, tells_memory, IsKept, at_place, waits_first, waits_as, spins_no_more, IfSome, MatchBool, MatchOption, is_some, WaitAction, Word, Call, Act, Event, place_after, same_word, PendingCall, call_of, hold_of, word_in, word_after, event, Move, step_at, is_step, sight_of, keeps_asking, last_of, WhereAsked, is_apart, Lacks, is_refusal, SemaphorePlace, semaphore_table, semaphore_begins, semaphore_intent, semaphore_after, semaphore_answered, permits_given, permits_taken, is_take, number_answered, semaphore_gives, semaphore_value, SemaphoreCause, wait_spins, permits_seen, SemaphoreStep, KeepsSemaphore, semaphore_most, semaphore_waiting}
 use Rattle.model_events.specs.Exports.{Arithmetic, IsPast}
 use Rattle.model_events.specs.declared.{hold.HoldKind.HoldKind}
 use Rattle.model_semaphore.proofs.Permits.{Effect, Tallies, tallies_first, tallies_after, lowered}

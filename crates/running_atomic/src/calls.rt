@@ -2,13 +2,11 @@
 ghost use Rattle.std.specs.Prelude.{◌≡◌, IfOk, IfErr, Some, None};
 ghost use Rattle.model_events.specs.declared.event.Call.TheVariants as calls;
 ghost use Rattle.model_events.specs.declared.event.Answer.TheVariants as answers;
-ghost use Rattle.model_atomic.specs.Table.{inside};
 ghost use Rattle.running_passes.specs.Passes.{view};
 ghost use Rattle.running_passes.specs.Views.{first_view};
 ghost use Rattle.running_model.specs.Slots.{no_parties};
 ghost use Rattle.running_model.specs.Passes.{played};
 ghost use Rattle.running_model.specs.Stages.{count_of};
-ghost use Rattle.running_atomic.specs.AtomicParties.{Writes};
 ghost use Rattle.model_atomic.specs.Register.{plain, update};
 ghost use Rattle.running_atomic.specs.History.{no_acts};
 ghost use Rattle.running_atomic.specs.AtomicSteps.{OneHistory};

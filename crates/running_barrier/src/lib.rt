@@ -5,7 +5,7 @@
 //! exchange, and that a barrier of 0 refuses each call.
 #![tactic(auto)]
 
-ghost use Rattle.std.specs.Prelude.{◌≡◌, ℕ, ◌≢◌, ◌<◌, ◌≤◌, ◌+◌, IfOk, MatchBool};
+ghost use Rattle.std.specs.Prelude.{◌≡◌, ℕ, ◌≢◌, ◌<◌, ◌+◌, IfOk, MatchBool};
 ghost use Rattle.running_model.specs.Passes.{parties_of, counts_of as tally_of, counted};
 ghost use Rattle.running_model.specs.Stages.{count_of as words_of, key_of};
 ghost use Rattle.running_barrier.specs.BarrierSteps.{ArrivalsAreOfARun, OpenRoundsAreFull};
@@ -64,7 +64,7 @@ impl Called<u64> for WaitCall {
 }
 
 impl<A: Allocator> Barrier<A> {
-    ghost use Rattle.std.specs.Prelude.{true, false, ◌+◌, ◌%◌, ◌/◌, ◌*◌, ◌^◌, ◌≢◌, [], ◌∷◌, MatchBool, MatchOption, IfSome, IfErr, is_ok, is_err, Some, List};
+    ghost use Rattle.std.specs.Prelude.{true, false, ◌+◌, ◌%◌, ◌^◌, ◌≢◌, [], ◌∷◌, MatchBool, IfErr, is_ok, Some, List};
     ghost use Rattle.model_events.specs.declared.event.Word.TheVariants as words;
     ghost use Rattle.model_events.specs.declared.event.Call.TheVariants as calls;
     ghost use Rattle.model_events.specs.declared.event.Answer.TheVariants as answers;

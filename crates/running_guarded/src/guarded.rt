@@ -1,5 +1,5 @@
 //! The guarded value itself.
-ghost use Rattle.std.specs.Prelude.{◌≡◌, ℕ, ◌<◌, ◌≤◌, ◌+◌, List, [], ◌∷◌, IfOk, IfErr, Some, None, true, false, MatchBool};
+ghost use Rattle.std.specs.Prelude.{◌≡◌, ℕ, ◌<◌, ◌+◌, List, [], ◌∷◌, IfOk, IfErr, Some, None, true, false, MatchBool};
 ghost use Rattle.running_passes.specs.Parts.{IsWhole};
 ghost use Rattle.running_passes.specs.Views.{first_view};
 ghost use Rattle.running_passes.specs.Answers.{MayAnswerAbort, HasWoken};
@@ -314,10 +314,9 @@ impl<T, A: Allocator> Guarded<T, A> {
 
 impl<T, A: Allocator> Guarded<T, A> {
     ghost use Rattle.std.specs.Borrow.{sem};
-    ghost use Rattle.std.specs.Fn.{FnOnceReturnsAtMut};
     ghost use Rattle.running_passes.specs.Answers.{IfSuccess, IfInterrupted, IsSuccess, RestsIfInterrupted};
     ghost use Rattle.running_guarded.specs.contracts.pass.GuardedPass.{the_row};
-    ghost use Rattle.running_guarded.specs.GuardedShown.{IsGuardedPass, IsAlone, IsOf, part_of, view, view_with, borrow_of, HasLocked, HasEntered, HasSeenLocked, HasGivenUp, HasUnlocked, HasStayed, HasLockedOnce};
+    ghost use Rattle.running_guarded.specs.GuardedShown.{IsGuardedPass, IsAlone, part_of, view, view_with, borrow_of, HasLocked, HasEntered, HasSeenLocked, HasGivenUp, HasUnlocked, HasStayed, HasLockedOnce};
 
     /// Locks the value as `Mutex::lock` locks a mutex: one exchange of 0 for 1, up to 10000 more, and then the wait closure, told 1,
     /// before each further one. `Interrupted` where an exchange failed after the closure had answered `Abort`; then this call has nothing.

@@ -1,5 +1,5 @@
 //! The right to call a guarded value.
-ghost use Rattle.std.specs.Prelude.{◌≡◌, ◌≤◌, ◌<◌, [], ◌∷◌, length, IfOk, is_ok, true};
+ghost use Rattle.std.specs.Prelude.{◌≡◌, ◌≤◌, ◌<◌, [], length, IfOk, is_ok, true};
 ghost use Rattle.running_passes.specs.declared.part.Part.{Part};
 ghost use Rattle.running_passes.specs.Parts.{half, IsAgain, IsSamePart, AddUp};
 ghost use Rattle.running_passes.specs.Views.{left_view, right_view, joined_view, spent_view};

@@ -1,6 +1,6 @@
 //! A call that waits until it can act on the value, and one that changes it for those that wait.
 ghost use Rattle.std.specs.Prelude.{◌≡◌, ℕ, suc, ◌<◌, ◌≤◌, ◌+◌, true, false, Some, None};
-ghost use Rattle.running_passes.specs.Answers.{IfSuccess, IfInterrupted, MayAnswerAbort, HasWoken};
+ghost use Rattle.running_passes.specs.Answers.{IfInterrupted, MayAnswerAbort, HasWoken};
 ghost use Rattle.running_semaphore.specs.SemaphoreShown.{IsEmpty};
 ghost use Rattle.running_mutex.specs.MutexParties.{HasMutex};
 ghost use Rattle.running_mutex.specs.CondShown.{IsCondPass, HasNotified, HasStayed as HasWaitedAtMost};

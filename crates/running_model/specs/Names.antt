@@ -1,7 +1,7 @@
 -- What this crate reads of others.
 pub use Rattle.model_events.specs.Arithmetic.{Arithmetic}
-pub use Rattle.model_events.specs.Moves.{stage_of, hold_fault, CallValues, InputValues, step_at, step_of, fault_at, begin_fault, go_fault, answer_fault, choose_fault, IsNext, next_stage, is_step}
-pub use Rattle.model_events.specs.Past.{call_of, hold_of, word_in, PendingCall, hold_after, latest_outcome, holds_of, hold_taken, same_word, Hold, with_hold, without, word_after, event, call_after, call_going_on, hold_or, is_release}
+pub use Rattle.model_events.specs.Moves.{stage_of, hold_fault, CallValues, InputValues, step_at, fault_at, begin_fault, go_fault, answer_fault, choose_fault, IsNext, next_stage}
+pub use Rattle.model_events.specs.Past.{call_of, hold_of, word_in, PendingCall, hold_after, latest_outcome, holds_of, hold_taken, same_word, word_after, event, call_after, call_going_on, hold_or, is_release}
 pub use Rattle.model_events.specs.Rows.{carried_out, value_told, within, refused, answered, outcome_of, place_after}
 pub use Rattle.model_events.specs.Runs.{IsPast}
 pub use Rattle.model_events.specs.Tables.{Table}
@@ -33,4 +33,4 @@ pub use Rattle.std.proofs.lemmas.Bool.{eqb-true, eqb-false}
 pub use Rattle.std.proofs.lemmas.Bool.Decides.{nat_tests}
 pub use Rattle.std.specs.Borrow.{MutBor, Bor}
 pub use Rattle.std.specs.Fn.{Shared, FnReturns}
-pub use Rattle.std.specs.Prelude.{ℕ, List, Option, Some, None, ◌≡◌, zero, suc, Bool, true, false, ◌&&◌, is_none, [], ◌∷◌, ◌⊎◌, ◌==◌, if◌then◌else◌, ◌+◌, ◌-◌, ◌%◌, ◌^◌, nat_lt, MatchBool, MatchOption}
+pub use Rattle.std.specs.Prelude.{ℕ, List, Option, Some, None, ◌≡◌, zero, suc, Bool, true, false, ◌&&◌, is_none, [], ◌∷◌, ◌⊎◌, ◌==◌, if◌then◌else◌, ◌+◌, ◌-◌, ◌%◌, ◌^◌, nat_lt}

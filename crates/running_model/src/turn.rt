@@ -1,5 +1,5 @@
 //! A call under way, and how its pass comes to the next step.
-ghost use Rattle.std.specs.Prelude.{◌≡◌, ℕ};
+ghost use Rattle.std.specs.Prelude.{◌≡◌};
 ghost use Rattle.running_passes.specs.Answers.{MayAnswer};
 ghost use Rattle.running_model.specs.Turns.{action_in, pass_in};
 

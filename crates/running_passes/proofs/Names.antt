@@ -2,7 +2,7 @@
 pub use Rattle.running_passes.specs.Parts.{whole, nothing, half, together, IsWhole, IsAgain, IsSamePart, weight, AddUp, total, Each, IsShared}
 pub use Rattle.running_passes.specs.Passes.{sights_of, Told}
 pub use Rattle.running_passes.specs.Tallies.{IsTally}
-pub use Rattle.running_passes.specs.Views.{first_view, spent_view, left_view, right_view, joined_view, IsCounted, Updates, part_of, IsBlank, sum_of}
+pub use Rattle.running_passes.specs.Views.{spent_view, left_view, right_view, joined_view, IsCounted, Updates, part_of, IsBlank, sum_of}
 pub use Rattle.running_passes.specs.declared.part.Part.{Part}
 pub use Rattle.running_passes.specs.declared.view.View.{View}
 pub use Rattle.std.proofs.Common.{◌≡◌, ◌+◌, ◌≤◌, ℕ, sym, subst, arith, zero, suc, ◌-◌, ◌*◌, ◌^◌, ◌<◌, List, [], ◌∷◌, ◌++◌, set, ap, ◌∙◌, pow-add, pow_pos, mul-pos, zero-mul, get_or, refl, rules}

@@ -12,6 +12,6 @@ pub use Rattle.running_model.specs.Plays.{Beginning, ComesBy, MayBegin, HasCalle
 pub use Rattle.running_model.specs.Slots.{Parties, all_of, Slot}
 pub use Rattle.running_model.specs.Tries.{spun}
 pub use Rattle.running_passes.specs.Passes.{part_of, sights_of}
-pub use Rattle.std.proofs.Common.{◌≡◌, arith, ◌≢◌, ℕ, ◌+◌, ◌≤◌, ◌==◌, ◌&&◌, Bool, true, MatchBool, None, refl, sym, ap, subst, ◌∙◌, inr, List, Some, inl}
+pub use Rattle.std.proofs.Common.{◌≡◌, arith, ◌≢◌, ℕ, ◌+◌, ◌≤◌, ◌==◌, Bool, true, MatchBool, None, refl, sym, ap, subst, ◌∙◌, inr, List, Some, inl}
 pub use Rattle.std.proofs.lemmas.Bool.{eqb-true, eqb-false, MatchBool-at_true, MatchBool-at_false, ne_eqb}
 pub use Rattle.std.proofs.lemmas.Bool.Decides.{nat_tests}

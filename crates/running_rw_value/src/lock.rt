@@ -1,5 +1,5 @@
 //! The lock itself.
-ghost use Rattle.std.specs.Prelude.{◌≡◌, ◌<◌, ◌^◌, IfOk, IfErr, Some, None, true, false, MatchBool};
+ghost use Rattle.std.specs.Prelude.{◌≡◌, ◌<◌, ◌^◌, IfOk, IfErr, Some, None, true, false};
 ghost use Rattle.std.specs.Borrow.{sem};
 ghost use Rattle.model_events.specs.declared.event.Call.TheVariants as calls;
 ghost use Rattle.model_events.specs.declared.event.Answer.TheVariants as answers;
@@ -15,7 +15,7 @@ ghost use Rattle.running_rw_hold.specs.RwShown.{IsReadHold, IsWriteHold, pass_of
 ghost use Rattle.running_rw_writer.specs.contracts.pass.RwWriterPass.{the_row};
 ghost use Rattle.running_rw_writer.specs.RwWriterParties.{has_hold};
 ghost use Rattle.running_rw_writer.specs.RwWriterSteps.{IsMarked};
-ghost use Rattle.running_rw_writer.specs.RwWriterShown.{IsRwWriterPass, IsAlone, IsShut, pass_in, known_by, part_in, sights_in, reads_of, writes_of, HasStayed, HasEnteredToRead, HasEnteredToWrite, HasReadAtOnce, HasWrittenAtOnce, HasSeenTaken, WasTurnedAway, HasGivenUpWriting, HasLeftReading, HasLeftWriting, HasPlayed, HasPlayedGivingUp};
+ghost use Rattle.running_rw_writer.specs.RwWriterShown.{IsRwWriterPass, IsAlone, IsShut, pass_in, known_by, part_in, sights_in, HasStayed, HasEnteredToRead, HasEnteredToWrite, HasReadAtOnce, HasWrittenAtOnce, HasSeenTaken, WasTurnedAway, HasGivenUpWriting, HasLeftReading, HasLeftWriting, HasPlayed, HasPlayedGivingUp};
 
 use crate::guard::{ReadGuard, WriteGuard, Writing};
 use model_events::WaitAction;

@@ -1,5 +1,5 @@
 -- What a writer's sights and tries come to, one after another.
-use Rattle.running_rw_writer.proofs.Names.{is_some, MatchBool, Sights, Pass, IsSamePass, sights_of, seen, counts_of, counted, wrote, flagged, ◌≡◌, ◌≢◌, ℕ, ◌+◌, ◌-◌, ◌%◌, ◌^◌, ◌<◌, not, Bool, true, Option, Some, None, ◌≤◌, arith, eqb-true, eqb-false, nat_tests, IsAloneWithin, HasTried, HasJustSeen, HasMissedIt, MayGiveUp, HasGivenUpWriting, HasEnteredSeenFree, PlayedRwWriter, IsMarked, IsSeenByWriter, Missed, WriterIn}
+use Rattle.running_rw_writer.proofs.Names.{is_some, MatchBool, Sights, Pass, IsSamePass, sights_of, seen, counts_of, counted, wrote, flagged, ◌≡◌, ◌≢◌, ℕ, ◌+◌, ◌-◌, ◌%◌, ◌^◌, ◌<◌, not, Bool, true, Option, Some, None, ◌≤◌, arith, eqb-true, eqb-false, nat_tests, HasTried, HasJustSeen, HasMissedIt, MayGiveUp, HasGivenUpWriting, HasEnteredSeenFree, PlayedRwWriter, IsMarked, IsSeenByWriter, Missed, WriterIn}
 
 -- what a function of the lock's model says of a word, by whether it answers another word
 
@@ -68,7 +68,3 @@ ends_after m n p q r entered h1 h2 = grind (arith, nat_tests, eqb-true, eqb-fals
 
 pub tries_after : (m n : ℕ) (p q r : Pass PlayedRwWriter) (entered : Bool) → HasTried m p q → MatchBool entered (HasEnteredSeenFree q r) (HasTried n q r) → MatchBool entered (HasEnteredSeenFree p r) (HasTried (m + n) p r)
 tries_after m n p q r entered h1 h2 = grind (arith, nat_tests, eqb-true, eqb-false)
-
--- it is still alone where it has seen that nobody holds the lock
-pub alone_still : (n found : ℕ) (p q : Pass PlayedRwWriter) → HasTried n p q → HasJustSeen found q → found ≡ 0 → IsAloneWithin p → IsAloneWithin q
-alone_still n found p q h1 h2 h3 h4 = grind (arith, nat_tests, eqb-true, eqb-false)

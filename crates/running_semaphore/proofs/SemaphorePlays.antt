@@ -1,5 +1,5 @@
 -- The steps of a semaphore are those of its table.
-use Rattle.running_semaphore.proofs.Names.{MatchBool, Word, Call, Answer, Then, Intent, SemaphorePlace, semaphore_intent, semaphore_model, WaitResult, IsSuccess, IsInterrupted, Slot, Parties, all_of, Coming, Going, Beginning, ComesBy, IsAt, HasCalled, MayStep, Went, spun, MayTry, IsToWake, ◌≡◌, ◌≢◌, ℕ, ◌-◌, ◌<◌, ◌^◌, Bool, true, false, refl, List, [], ◌∷◌, None, ne_eqb, Wanting, Trying, Waiting, call_of, look_of, take_of, MayWant, FoundNone, HasOne, answer_of, Posts, nat_tests, eqb-true, eqb-false, arith}
+use Rattle.running_semaphore.proofs.Names.{MatchBool, Word, Call, Answer, Then, Intent, SemaphorePlace, semaphore_intent, semaphore_model, WaitResult, IsSuccess, IsInterrupted, Slot, Parties, all_of, Coming, Going, Beginning, ComesBy, IsAt, HasCalled, MayStep, Went, spun, MayTry, IsToWake, ◌≡◌, ◌≢◌, ℕ, ◌-◌, ◌<◌, ◌^◌, Bool, refl, List, [], ◌∷◌, None, ne_eqb, Wanting, Trying, Waiting, call_of, look_of, take_of, MayWant, FoundNone, HasOne, answer_of, Posts, nat_tests, eqb-true, eqb-false, arith}
 use Rattle.running_model.specs.Turns.{IsOverAside}
 use Rattle.running_semaphore.specs.SemaphoreParties.{HasLooked}
 

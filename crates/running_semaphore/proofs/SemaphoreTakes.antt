@@ -1,5 +1,5 @@
 -- What the looks and exchanges of a call come to that takes a permit.
-use Rattle.running_semaphore.proofs.Names.{IsWhole, WaitResult, IfSuccess, IfInterrupted, IsSuccess, IsInterrupted, part_of, HasSeen, HasMissed, HasDone, HasOnlySeen, WasRefused, value_of, ◌≡◌, ◌≢◌, ℕ, ◌-◌, ◌<◌, Bool, false, Option, Some, None, MatchBool, sym, ap, subst, ◌∙◌, arith, eqb_same, moved_later, took, SemPass, IsEmpty, HasTaken, worth_of, nat_tests, eqb-true, eqb-false, SawLast, TookOne, SawNone, seen_twice, missed_once}
+use Rattle.running_semaphore.proofs.Names.{IsWhole, WaitResult, IfSuccess, IfInterrupted, IsSuccess, IsInterrupted, part_of, HasSeen, HasMissed, HasDone, HasOnlySeen, value_of, ◌≡◌, ◌≢◌, ℕ, ◌-◌, ◌<◌, Bool, false, Option, Some, None, MatchBool, sym, ap, subst, ◌∙◌, arith, eqb_same, moved_later, took, SemPass, worth_of, nat_tests, eqb-true, eqb-false, SawLast, TookOne, SawNone, seen_twice, missed_once}
 use mathlib.Core.Logic.{dite}
 use native.Mathlib.Decide.{ℕ_discrete}
 
@@ -30,10 +30,6 @@ none_there seen p q h1 h2 = grind (arith, nat_tests, eqb-true, eqb-false)
 
 pub takes_one : (seen : ℕ) (p q r : SemPass) → SawLast seen p q → seen ≢ 0 → HasDone took q r → TookOne p r
 takes_one seen p q r h1 h2 h3 = grind (arith, nat_tests, eqb-true, eqb-false, moved_later)
-
--- whether one was there, with the whole pass, once a first look had seen none
-pub none_later : (n : ℕ) (b : Bool) (p q r : SemPass) → HasOnlySeen p q → worth_of p ≡ 0 → IsWhole (part_of p) → MatchBool b (HasTaken q r) (WasRefused IsEmpty n q r) → MatchBool b (0 < worth_of p) (worth_of p ≡ 0)
-none_later n b p q r h1 h2 h3 h4 = grind (arith, nat_tests, eqb-true, eqb-false)
 
 -- by whether it was taken, how the call answers
 

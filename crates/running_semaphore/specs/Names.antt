@@ -9,16 +9,16 @@ pub use Rattle.model_semaphore.specs.Table.{try_look, look, semaphore_table, sem
 pub use Rattle.model_semaphore.specs.declared.SemaphorePlace.{SemaphorePlace}
 pub use Rattle.running_model.specs.Counts.{HasMoved, HasDone, WasRefused, HasSeen, HasOnlySeen, HasMissed}
 pub use Rattle.running_model.specs.Passes.{parties_of, counts_of, counted, none_played, both_played, PlaysAndCounts, IsOfARun, IsShare, Told, played}
-pub use Rattle.running_model.specs.Plays.{Coming, ComesBy, Leads, HasEnded, HasCalled, IsAt, Beginning, MayStep, Went, Going, Led}
+pub use Rattle.running_model.specs.Plays.{Coming, ComesBy, Leads, HasEnded, HasCalled, IsAt, Beginning, MayStep, Went, Going}
 pub use Rattle.running_model.specs.Sees.{sights_after}
 pub use Rattle.running_model.specs.Slots.{Slot, Parties, all_of}
-pub use Rattle.running_model.specs.Tries.{spun, MayTry, Tried, IsGranted, IsRefused, IsToWake}
+pub use Rattle.running_model.specs.Tries.{spun, MayTry, IsToWake}
 pub use Rattle.running_model.specs.declared.played.Played.{Played}
 pub use Rattle.running_passes.specs.Answers.{HasAsked, IsSuccess, IsInterrupted, IfSuccess, IfInterrupted}
 pub use Rattle.running_passes.specs.Parts.{IsWhole}
 pub use Rattle.running_passes.specs.Passes.{IsSamePass, part_of, sights_of, view}
 pub use Rattle.running_passes.specs.Sights.{LooksOnceOrMisses, HasLooked}
-pub use Rattle.running_passes.specs.Views.{looked, wrote, sum_of, IsCounted, view_of, missed}
+pub use Rattle.running_passes.specs.Views.{looked, wrote, sum_of, IsCounted, missed}
 pub use Rattle.running_passes.specs.declared.view.View.{View}
 pub use Rattle.running_passes.specs.declared.wait.WaitResult.{WaitResult}
 pub use Rattle.running_passes.specs.declared.wait.WaitResult.TheVariants.{Success, Interrupted}

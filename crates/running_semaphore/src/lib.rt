@@ -4,7 +4,7 @@
 #![tactic(auto)]
 
 ghost use Rattle.std.specs.Prelude.{◌≡◌, ◌<◌, ◌≤◌, IfOk};
-ghost use Rattle.running_model.specs.Passes.{parties_of, counts_of};
+ghost use Rattle.running_model.specs.Passes.{parties_of};
 ghost use Rattle.running_model.specs.Stages.{count_of};
 ghost use Rattle.running_semaphore.specs.SemaphoreSteps.{PermitsAreOfARun};
 

@@ -1,5 +1,5 @@
 //! Walks a text step by step.
-ghost use Rattle.std.specs.Prelude.{◌≡◌, ◌+◌, ◌^◌, ◌<◌, ℕ, true, List, length, Ok, Err, IfOk, IfErr, IfSome, ⊤};
+ghost use Rattle.std.specs.Prelude.{◌≡◌, ◌+◌, ◌^◌, ◌<◌, ℕ, List, length, Ok, Err, IfOk, IfErr, IfSome, ⊤};
 ghost use Rattle.sync_steps.specs.Machine.{StandsAt};
 ghost use Rattle.model_events.specs.declared.event.Event.{Event as AnEvent};
 ghost use Rattle.model_events.specs.declared.event.Object.{Object as AnObject};

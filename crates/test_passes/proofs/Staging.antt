@@ -1,6 +1,6 @@
 -- The steps of the tests' counter are those of its table.
 use Rattle.test_passes.specs.Names.{Word, Call, Intent, u64_arithmetic, Parties, all_of, Beginning, ComesBy, MayStep}
-use Rattle.test_passes.proofs.Names.{◌≡◌, ℕ, refl, List, [], ◌∷◌, Some, None}
+use Rattle.test_passes.proofs.Names.{◌≡◌, ℕ, refl, [], ◌∷◌, Some, None}
 use Rattle.model_events.specs.Moves.{hold_fault, CallValues}
 use Rattle.running_model.specs.Words.{IsStepOn}
 use Rattle.test_passes.specs.Staging.{counter_begins, counter_table, counter_model}

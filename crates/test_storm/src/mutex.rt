@@ -1,6 +1,4 @@
 //! A storm at a mutex.
-ghost use Rattle.std.specs.Prelude.{◌≡◌};
-ghost use Rattle.running_mutex.specs.MutexShown.{IsMutexPass, IsAlone, HasStayed};
 
 use crate::crowd::{Means, Object};
 use crate::platform::Platform;

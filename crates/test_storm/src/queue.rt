@@ -1,5 +1,4 @@
 //! A storm at a queue for 8 jobs: two put, and six take.
-ghost use Rattle.std.specs.Prelude.{◌≡◌};
 ghost use Rattle.job_queue.specs.QueueShown.{IsQueuePass, HasStayed};
 
 use crate::crowd::{Means, Object};

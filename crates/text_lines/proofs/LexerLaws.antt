@@ -1,6 +1,6 @@
 -- Lines and words cut from the front, and numbers read digit by digit, are those of the definitions.
-use Rattle.text_lines.proofs.Names.{◌≡◌, ◌≢◌, ℕ, suc, ◌+◌, ◌*◌, ◌-◌, ◌<◌, ◌≤◌, Bool, true, false, ◌&&◌, ◌==◌, eqb, ltb, cond, not, List, [], ◌∷◌, ◌++◌, length, get_or, take, drop, Option, Some, None, refl, sym, ap, ◌∙◌, arith, add-one, drop-cons, le-ltb, lt-ltb, eqb-true, eqb-false, nat_tests, is_ascii_digit, lines_of, onto_line, cut_line, words_of, is_blank, onto_word, before_bytes, number_from, fitting}
-use Rattle.std.proofs.lemmas.List.{take_all, drop_all, length-drop}
+use Rattle.text_lines.proofs.Names.{◌≡◌, ◌≢◌, ℕ, suc, ◌+◌, ◌*◌, ◌-◌, ◌<◌, ◌≤◌, Bool, true, false, ◌&&◌, ◌==◌, eqb, ltb, cond, not, List, [], ◌∷◌, ◌++◌, length, get_or, take, drop, Option, Some, None, refl, sym, ap, ◌∙◌, arith, add-one, drop-cons, le-ltb, eqb-true, eqb-false, nat_tests, is_ascii_digit, lines_of, onto_line, cut_line, words_of, is_blank, onto_word, before_bytes, number_from, fitting}
+use Rattle.std.proofs.lemmas.List.{take_all, length-drop}
 use Rattle.std.specs.List.{position, position_or_len}
 
 -- Before the first element that passes, and from it on.
@@ -199,7 +199,3 @@ too_large bound n (byte ∷ bytes) h = unless_digit bound (is_ascii_digit byte) 
 -- the number with one digit more is too large
 pub digit_too_large : (bound n i : ℕ) (word : List ℕ) (read : Option ℕ) → i < length word → bound ≤ n * 10 + (get_or word i 0 - 48) → fitting bound (number_from n (drop i word)) ≡ read → read ≡ None
 digit_too_large bound n i word read h1 h2 h3 = grind (arith, nat_tests, eqb-true, eqb-false, drop, get_or, add-one, drop-cons, unless_digit, too_large)
-
--- all digits are read
-pub digits_end : (bound n i : ℕ) (word : List ℕ) (read : Option ℕ) → n < bound → length word ≤ i → fitting bound (number_from n (drop i word)) ≡ read → Some n ≡ read
-digits_end bound n i word read small past e = sym (rw (drop_all i word past, lt-ltb n bound small) refl) ∙ e

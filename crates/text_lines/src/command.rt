@@ -1,5 +1,5 @@
 //! What a line after the first asks, and of whom.
-ghost use Rattle.std.specs.Prelude.{◌≡◌, ◌||◌, List, is_some, ⊤};
+ghost use Rattle.std.specs.Prelude.{◌≡◌, ◌||◌, is_some, ⊤};
 ghost use Rattle.text_lines.specs.Lexer.{find, words_of};
 ghost use Rattle.text_lines.specs.Call.{named as call_of_name};
 ghost use Rattle.text_lines.specs.Objects.{calls_of as listed_calls};

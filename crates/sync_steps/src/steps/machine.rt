@@ -1,4 +1,4 @@
-ghost use Rattle.std.specs.Prelude.{◌≡◌, ◌<◌, true, [], length, IfOk, IfErr, OnErr};
+ghost use Rattle.std.specs.Prelude.{◌≡◌, ◌<◌, [], length, IfOk, IfErr, OnErr};
 ghost use Rattle.model_events.specs.declared.event.Input.TheVariants as inputs;
 ghost use Rattle.model_events.specs.declared.event.Word.TheVariants as words;
 ghost use Rattle.model_events.specs.Past.{event};

@@ -1,5 +1,5 @@
 //! One holder at a time, and calls that give up.
-ghost use Rattle.std.specs.Prelude.{◌≡◌, ◌+◌};
+ghost use Rattle.std.specs.Prelude.{◌+◌};
 ghost use Rattle.running_guarded.specs.GuardedShown.{IsGuardedPass, IsSamePass};
 
 use super::party::in_two_parts;

@@ -1,5 +1,4 @@
 //! What is tested of each lock, whichever way it is locked: that a party tries, waits, gives up, and is let in after that.
-ghost use Rattle.std.specs.Prelude.{◌≡◌};
 
 use super::nothing;
 use iceoryx2_pal_concurrency_sync::{WaitAction, WaitWord};

@@ -1,5 +1,5 @@
 //! Each step once, by a counter: its word is what all passes have added, less what they took away again.
-ghost use Rattle.std.specs.Prelude.{◌≡◌, ◌+◌, ◌≤◌};
+ghost use Rattle.std.specs.Prelude.{◌≡◌, ◌+◌};
 ghost use Rattle.running_passes.specs.Objects.{IsPassOf, count_of};
 ghost use Rattle.running_passes.specs.Parts.{IsWhole};
 ghost use Rattle.running_passes.specs.Passes.{IsSamePass, part_of, tally_of};

@@ -1,6 +1,5 @@
 //! What a sleep costs: a thread holds a mutex for a second, while seven sleep.
 ghost use Rattle.std.specs.Prelude.{◌≡◌};
-ghost use Rattle.running_passes.specs.Passes.{part_of};
 ghost use Rattle.running_mutex.specs.MutexShown.{IsMutexPass, HasStayed, holds_of};
 
 use iceoryx2_pal_concurrency_sync::strategy::mutex::{Mutex, MutexPass};

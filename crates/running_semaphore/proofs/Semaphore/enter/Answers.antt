@@ -1,6 +1,5 @@
-use Rattle.running_semaphore.proofs.Names.{Call, Answer, IsWhole, HasAsked, WasRefused, all_of, spun, parties_of, semaphore_model, MatchBool, sym, ap, subst, ◌∙◌, MatchBool-at_true, MatchBool-at_false, true≢false, told_after, asked_after, is_over, either_is_over, Waiting, IsEmpty, Takes, HasTaken, HasPlayed, initial_of}
+use Rattle.running_semaphore.proofs.Names.{Call, Answer, IsWhole, HasAsked, all_of, spun, parties_of, semaphore_model, MatchBool, sym, ap, subst, ◌∙◌, MatchBool-at_true, MatchBool-at_false, asked_after, is_over, either_is_over, Waiting, IsEmpty, HasTaken, HasPlayed, initial_of}
 use Rattle.running_semaphore.proofs.SemaphorePlays.{may_wait, wait_begins}
-use Rattle.running_semaphore.proofs.SemaphoreTakes.{none_later}
 use Rattle.running_semaphore.proofs.Semaphore.enter.Goals as goal
 
 pub first_take-requires-clause-comes : goal.first_take-requires-clause-comes
