@@ -1,4 +1,4 @@
-use Rattle.running_once.proofs.Names.{sym, subst, parties_of, HasDone, HasLeft, ended, PlayedPass}
+use Rattle.running_once.proofs.Names.{subst, HasDone, ended, PlayedPass}
 use Rattle.running_once.proofs.OnceKeeps.{ends}
 use Rattle.running_once.proofs.OncePlays.{is_to_end, runs_still, may_complete, completes}
 use Rattle.running_once.proofs.Once.run.Goals as goal

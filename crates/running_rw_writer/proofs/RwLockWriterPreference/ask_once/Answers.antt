@@ -1,4 +1,4 @@
-use Rattle.running_rw_writer.proofs.AnswerNames.{HasEnteredSeenFree, HasTried, WaitAction, Pass, Answered, parties_of, spun, ◌<◌, ◌^◌, ◌∙◌, sym, subst, arith, MatchBool, PlayedRwWriter, ComesToWrite, ComesToGiveUp, fewest, tried_again, tries_after, stands, goes_on, stands_to_wait, continued, aborted}
+use Rattle.running_rw_writer.proofs.AnswerNames.{HasEnteredSeenFree, HasTried, WaitAction, Pass, Answered, parties_of, spun, ◌<◌, ◌^◌, ◌∙◌, sym, subst, arith, MatchBool, PlayedRwWriter, ComesToWrite, ComesToGiveUp, fewest, tries_after, stands, goes_on, stands_to_wait, continued, aborted}
 use Rattle.running_passes.proofs.Attempts.{told_of_its_kind}
 use Rattle.running_rw_writer.proofs.RwLockWriterPreference.ask_once.Goals as goal
 
