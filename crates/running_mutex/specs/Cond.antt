@@ -14,12 +14,16 @@ use Rattle.running_model.specs.Words.{IsOnNoWord, on_no_word}
 use Rattle.std.proofs.lemmas.Bool.Decides.{nat_tests}
 use Rattle.std.proofs.lemmas.Bool.{eqb-true, eqb-false}
 
+-- The model that it plays.
+
 abbrev pub waiters_model : Model ℕ WaitersPlace
 waiters_model = record { arithmetic = u64_arithmetic; table = waiters_table; law = KeepsWaiters }
 
 -- every run keeps the count's law
 pub waiters_lawful : (parties : ℕ) (past : List (Event ℕ)) → IsPast u64_arithmetic waiters_table parties past → KeepsWaiters past
 waiters_lawful parties past run = keeps_waiters u64_arithmetic parties past run
+
+-- What a pass counts, and what all passes count together.
 
 abbrev pub waits : ℕ → ℕ → Waits
 waits begun ended = record { begun = begun; ended = ended }
@@ -71,6 +75,8 @@ pub record CountsThoseInside (s : State (Unit {0}) (View PlayedWaits)) : Type 0 
 -- so it is whenever the rule holds
 abbrev pub CountIsInside : Type 0
 CountIsInside = (s : State (Unit {0}) (View PlayedWaits)) → IsRuled s → CountsThoseInside s
+
+-- What the passes count adds up, and follows the run.
 
 pub waits_add_up : IsTally no_waits both_waits (λ _. no_waits)
 waits_add_up = pairs_add_up waits (λ t. t.begun) (λ t. t.ended) (λ n m. refl) (λ n m. refl) (λ t. refl)

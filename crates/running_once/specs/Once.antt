@@ -1,12 +1,16 @@
 -- What the passes of a once count and know, the model that a once plays, the rule over all passes, and that the counts follow the run.
 use Rattle.running_once.specs.Names.{ℕ, List, Event, OncePlace, once_table, KeepsOnce, u64_arithmetic, Model, IsPast, keeps_once, ◌≡◌, ◌+◌, ◌*◌, ◌≤◌, Bool, true, false, ◌||◌, ◌==◌, [], ◌∷◌, Word, Call, Act, begins_in, ends_in, View, IsWhole, total, view_of, looked, IsCounted, sum_of, Played, none_played, both_played, PlaysAndCounts, IsOfARun, some, get_elem?, State, word_in, acts_in, Runs, OnceScript, cond, refl, ◌∙◌, arith, eqb-true, eqb-false, nat_tests, word_after, carried_out, once_intent, is_begin, is_end, StaysOnNoWord, GoesOnByActs, IsTally}
 
+-- The model that it plays.
+
 abbrev pub once_model : Model ℕ OncePlace
 once_model = record { arithmetic = u64_arithmetic; table = once_table; law = KeepsOnce }
 
 -- every run keeps the once's law
 pub once_lawful : (parties : ℕ) (past : List (Event ℕ)) → IsPast u64_arithmetic once_table parties past → KeepsOnce past
 once_lawful parties past run = keeps_once u64_arithmetic parties past run
+
+-- What a pass counts and knows, and what all passes do together.
 
 abbrev pub runs : ℕ → ℕ → Bool → Runs
 runs running ended complete = record { running = running; ended = ended; complete = complete }
@@ -101,6 +105,8 @@ pub record Says (v : View Runs) (found : ℕ) : Type 0 where
 pub record Loaded (v : View Runs) (found : ℕ) (w : View Runs) : Type 0 where
   pub says : Says v found
   pub saw : w ≡ learns found (looked v found)
+
+-- What the passes count adds up, and follows the run.
 
 pub runs_add_up : IsTally no_runs both_runs known_runs
 runs_add_up = grind (arith, nat_tests, eqb-true, eqb-false)

@@ -197,7 +197,7 @@ leaves_reading found p q went = λ done holding. went Call.Unlock RwWriterPlace.
 pub leaves_writing : (found : ℕ) (p q : Parties ℕ) → TableLed (Continuing Call.Unlock) p found q → Unlocks HoldKind.Write (After.At (RwWriterPlace.Count Leaver.Writer)) p q
 leaves_writing found p q went = λ done holding. went Call.Unlock RwWriterPlace.Release (Some HoldKind.Write) done (unlock_begins HoldKind.Write done p holding)
 
--- from the pass with which the call began
+-- what goes on so from the pass that has begun goes on so from the pass before
 pub since_begun : (kind : HoldKind) (after : After ℕ RwWriterPlace) (p begun : Pass PlayedRwWriter) (q : Parties ℕ) → begun ≡ p → Unlocks kind after (parties_of begun) q → Unlocks kind after (parties_of p) q
 since_begun kind after p begun q is goes = subst (λ (b : Pass PlayedRwWriter). Unlocks kind after (parties_of b) q) is goes
 
