@@ -49,7 +49,7 @@ impl<T: AtomicInteger, A: Allocator> Atomic<T, A> {
     }
 
     /// The value.
-    #[inline(always)]
+    #[inline]
     pub fn load<R: Wait>(&self, rt: &R, pass: &mut AtomicPass<T>, _order: Ordering) -> T
         requires own { IsAtomicPass self.now pass.old }
         ensures acted { HasActed T.arithmetic (opening_of self.now) (plain calls.Load) (answers.Value result) pass.old pass.new }
@@ -59,7 +59,7 @@ impl<T: AtomicInteger, A: Allocator> Atomic<T, A> {
     }
 
     /// Writes the value.
-    #[inline(always)]
+    #[inline]
     pub fn store<R: Wait>(&self, rt: &R, pass: &mut AtomicPass<T>, value: T, _order: Ordering)
         requires own { IsAtomicPass self.now pass.old }
         ensures acted { HasActed T.arithmetic (opening_of self.now) (plain (calls.Store value)) answers.Done pass.old pass.new }
@@ -69,7 +69,7 @@ impl<T: AtomicInteger, A: Allocator> Atomic<T, A> {
     }
 
     /// Writes the value, and answers the old one.
-    #[inline(always)]
+    #[inline]
     pub fn swap<R: Wait>(&self, rt: &R, pass: &mut AtomicPass<T>, value: T, _order: Ordering) -> T
         requires own { IsAtomicPass self.now pass.old }
         ensures acted { HasActed T.arithmetic (opening_of self.now) (plain (calls.Swap value)) (answers.Value result) pass.old pass.new }
@@ -79,7 +79,7 @@ impl<T: AtomicInteger, A: Allocator> Atomic<T, A> {
     }
 
     /// Writes `new` where the value is `current`, and answers `Ok` with the old value; else `Err` with it, and nothing is written.
-    #[inline(always)]
+    #[inline]
     pub fn compare_exchange<R: Wait>(
         &self,
         rt: &R,
@@ -105,7 +105,7 @@ impl<T: AtomicInteger, A: Allocator> Atomic<T, A> {
     }
 
     /// The same: it fails only where the value differs.
-    #[inline(always)]
+    #[inline]
     pub fn compare_exchange_weak<R: Wait>(
         &self,
         rt: &R,
@@ -131,7 +131,7 @@ impl<T: AtomicInteger, A: Allocator> Atomic<T, A> {
     }
 
     /// Adds, wrapping, and answers the old value.
-    #[inline(always)]
+    #[inline]
     pub fn fetch_add<R: Wait>(
         &self,
         rt: &R,
@@ -147,7 +147,7 @@ impl<T: AtomicInteger, A: Allocator> Atomic<T, A> {
     }
 
     /// Subtracts, wrapping, and answers the old value.
-    #[inline(always)]
+    #[inline]
     pub fn fetch_sub<R: Wait>(
         &self,
         rt: &R,
@@ -163,7 +163,7 @@ impl<T: AtomicInteger, A: Allocator> Atomic<T, A> {
     }
 
     /// Writes the bits that both have, and answers the old value.
-    #[inline(always)]
+    #[inline]
     pub fn fetch_and<R: Wait>(
         &self,
         rt: &R,
@@ -179,7 +179,7 @@ impl<T: AtomicInteger, A: Allocator> Atomic<T, A> {
     }
 
     /// Writes the bits that one of them has, and answers the old value.
-    #[inline(always)]
+    #[inline]
     pub fn fetch_or<R: Wait>(
         &self,
         rt: &R,
@@ -195,7 +195,7 @@ impl<T: AtomicInteger, A: Allocator> Atomic<T, A> {
     }
 
     /// Writes the bits that only one of them has, and answers the old value.
-    #[inline(always)]
+    #[inline]
     pub fn fetch_xor<R: Wait>(
         &self,
         rt: &R,
@@ -211,7 +211,7 @@ impl<T: AtomicInteger, A: Allocator> Atomic<T, A> {
     }
 
     /// Writes the bits that not both have, and answers the old value.
-    #[inline(always)]
+    #[inline]
     pub fn fetch_nand<R: Wait>(
         &self,
         rt: &R,
@@ -227,7 +227,7 @@ impl<T: AtomicInteger, A: Allocator> Atomic<T, A> {
     }
 
     /// Writes the greater of the two, and answers the old value.
-    #[inline(always)]
+    #[inline]
     pub fn fetch_max<R: Wait>(
         &self,
         rt: &R,
@@ -243,7 +243,7 @@ impl<T: AtomicInteger, A: Allocator> Atomic<T, A> {
     }
 
     /// Writes the lesser of the two, and answers the old value.
-    #[inline(always)]
+    #[inline]
     pub fn fetch_min<R: Wait>(
         &self,
         rt: &R,
@@ -261,7 +261,7 @@ impl<T: AtomicInteger, A: Allocator> Atomic<T, A> {
     /// Asks `f` once, under the write lock, what to write in place of the old value, and writes that; answers `Ok` with the old value.
     /// Where it chooses nothing, nothing is written, and the answer is `Err` with the old value. An `f` that calls this atomic waits for
     /// ever.
-    #[inline(always)]
+    #[inline]
     pub fn fetch_update<R: Wait, F: FnMut(T) -> Option<T>>(
         &self,
         rt: &R,

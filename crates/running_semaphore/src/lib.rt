@@ -105,7 +105,7 @@ impl<A: Allocator> Semaphore<A> {
     }
 
     /// How many permits are there to take. Another party may post or take right after.
-    #[inline(always)]
+    #[inline]
     pub fn value(&self, pass: &mut SemPass) -> u64
         requires own { IsSemPass self.now pass.old }
         ensures saw { HasSeen result pass.old pass.new }
