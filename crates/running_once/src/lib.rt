@@ -346,7 +346,8 @@ impl<A: Allocator> Once<A> {
         seen
     }
 
-    /// Looks until the word says that a closure has ended.
+    /// Looks until the word says that a closure has ended. Out of line, so that a loop of a caller's has no loop inside.
+    #[inline(never)]
     fn stay<'p, R: Wait>(
         &self,
         rt: &R,
