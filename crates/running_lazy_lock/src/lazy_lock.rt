@@ -88,24 +88,6 @@ impl<T: Drop, F: FnOnce() -> T + Drop, G: Gives<T, F>, A: Allocator> LazyLock<T,
     ghost use Rattle.running_once.specs.OnceShown.{given_by};
     ghost use Rattle.running_lazy_lock.specs.LazyShown.{IsLazyPass, IsComplete, IsWritten, HasForced, HasSeenOnce, HasPlayed, ended_of, part_of, init_in};
 
-    /// The value. Calls the closure for it, if no other call has begun to; else comes back once that has ended. A closure that forces
-    /// this value itself waits for ever.
-    #[inline(always)]
-    pub fn force<'t, R: Wait>(this: &'t Self, rt: &R, pass: &mut LazyPass) -> &'t T
-        requires own { IsLazyPass this.now pass.old }
-        requires keeps { (f : F) → G.may f → F.IsAlwaysCallable f × ((value : T) → F.post f value → G.gives f value) }
-        ensures given { IsGiven G.may G.gives result.now }
-        ensures forced { HasForced pass.old pass.new }
-        ensures made { ended_of pass.old < ended_of pass.new → IsGiven G.may F.post result.now }
-        ensures called { ended_of pass.old < ended_of pass.new → HasPlayedBoth calls.BlockingLock (view (init_in pass.old)) (view (init_in pass.new)) }
-        ensures kept { IsComplete pass.old → HasSeenOnce pass.old pass.new }
-        ensures exact { IsWhole (part_of pass.old) → ended_of pass.new ≡ 1 }
-        ensures played { HasPlayed pass.old pass.new }
-    {
-        let (value, _ran) = LazyLock::force_shown(this, rt, pass);
-        value
-    }
-
     /// What `force` does, and where this call ran the closure, what shows that its value lay there before the once's run ended.
     #[inline(always)]
     pub fn force_shown<'t, R: Wait>(
@@ -149,7 +131,7 @@ impl<T: Drop, F: FnOnce() -> T + Drop, G: Gives<T, F>, A: Allocator> LazyLock<T,
     }
 
     /// Calls the closure, and puts its value where all can read it. What shows that it is there.
-    fn make<R: Wait>(&self, rt: &R, pass: &mut SpinPass) -> Written<T>
+    pub(crate) fn make<R: Wait>(&self, rt: &R, pass: &mut SpinPass) -> Written<T>
         requires own { IsSpinPass self.now.init pass.old }
         requires keeps { (f : F) → G.may f → F.IsAlwaysCallable f × ((value : T) → F.post f value → G.gives f value) }
         ensures locked { HasLockedOnce pass.old pass.new }
@@ -182,7 +164,7 @@ impl<T: Drop, F: FnOnce() -> T + Drop, G: Gives<T, F>, A: Allocator> LazyLock<T,
 }
 
 /// For what does not come about, as no clause says: one party alone takes the closure and sets the value.
-fn never<X, R: Wait>(rt: &R) -> X
+pub(crate) fn never<X, R: Wait>(rt: &R) -> X
     ensures { ⊥ }
 {
     for _ in rt.forever() {

@@ -4,6 +4,7 @@
 //! value is dropped with the lock. The closure lies in a spin lock beside a once; the party whose exchange began takes it out.
 #![tactic(auto)]
 
+mod forcing;
 mod gives;
 mod init;
 mod lazy_lock;
