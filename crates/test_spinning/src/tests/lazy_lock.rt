@@ -38,7 +38,7 @@ fn new_lazy<F: FnOnce() -> u64 + Drop>(
     }
 }
 
-/// Forces a new lazy value twice whose closure counts its calls: what is counted before, both values, and what is counted then.
+/// Forces a new lazy value twice, by both calls, whose closure counts its calls: what is counted before, both values, and what is counted then.
 fn read_counting<F: FnOnce() -> u64 + Drop, R: Wait>(
     rt: &R,
     alloc: Global,
@@ -49,9 +49,9 @@ fn read_counting<F: FnOnce() -> u64 + Drop, R: Wait>(
 {
     let (lazy, mut pass) = new_lazy(alloc, closure)?;
     let before = calls.load(Ordering::SeqCst);
-    let first = *LazyLock::force(&lazy, rt, &mut pass);
+    let (first, _ran) = LazyLock::force_shown(&lazy, rt, &mut pass);
     let second = *LazyLock::force(&lazy, rt, &mut pass);
-    Ok([before, first, second, calls.load(Ordering::SeqCst)])
+    Ok([before, *first, second, calls.load(Ordering::SeqCst)])
 }
 
 #[test]
