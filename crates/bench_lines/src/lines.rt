@@ -18,6 +18,7 @@ mod rwwriter;
 mod semaphore;
 mod spin_lock;
 
+use iceoryx2_pal_concurrency_sync::{WaitAction, WaitWord};
 use std::alloc::{AllocError, Global};
 use std::sync::Wait;
 
@@ -228,6 +229,12 @@ impl Line {
 trait Operation {
     /// Makes it once, and tells whether it succeeded.
     fn once(&mut self) -> bool;
+}
+
+/// A wait closure that does nothing.
+#[inline(always)]
+fn go_on(_word: &WaitWord, _seen: &u64) -> WaitAction {
+    WaitAction::Continue
 }
 
 /// The measured loop: makes the operation again and again, and counts how often it succeeded.

@@ -3,6 +3,7 @@ ghost use Rattle.running_barrier.specs.BarrierShown.{IsBarrierPass};
 
 use crate::lines::{Operation, successes};
 use iceoryx2_pal_concurrency_sync::strategy::barrier::{Barrier, BarrierPass};
+use iceoryx2_pal_concurrency_sync::wake_nobody;
 use std::alloc::{AllocError, Global};
 use std::sync::atomic::{AtomicU64, Ordering};
 use std::sync::{self, Wait};
@@ -26,7 +27,7 @@ impl<R: Wait> Operation for PassOne<'_, R> {
     fn once(&mut self) -> bool {
         let passed = self
             .barrier
-            .wait(self.rt, &mut self.pass, |_, _| (), |_| ());
+            .wait(self.rt, &mut self.pass, |_, _| (), wake_nobody);
         passed.is_ok()
     }
 }

@@ -3,6 +3,7 @@ ghost use Rattle.running_mutex.specs.CondShown.{IsCondPass};
 
 use crate::lines::{Operation, successes};
 use iceoryx2_pal_concurrency_sync::strategy::condition_variable::{CondPass, ConditionVariable};
+use iceoryx2_pal_concurrency_sync::wake_nobody;
 use std::alloc::{AllocError, Global};
 use std::sync::Condvar;
 use std::sync::atomic::{AtomicU64, Ordering};
@@ -23,7 +24,7 @@ struct NotifyOne {
 impl Operation for NotifyOne {
     #[inline(always)]
     fn once(&mut self) -> bool {
-        self.condvar.notify_one(&mut self.pass, |_| ());
+        self.condvar.notify_one(&mut self.pass, wake_nobody);
         true
     }
 }

@@ -1,9 +1,9 @@
 //! The lines of the mutex, and what they are compared with.
 ghost use Rattle.running_mutex.specs.MutexShown.{IsMutexPass, HasStayed};
 
-use crate::lines::{Operation, successes};
+use crate::lines::{Operation, go_on, successes};
 use iceoryx2_pal_concurrency_sync::strategy::mutex::{Mutex, MutexPass};
-use iceoryx2_pal_concurrency_sync::{WaitAction, WaitResult};
+use iceoryx2_pal_concurrency_sync::{WaitResult, wake_nobody};
 use std::alloc::{AllocError, Global};
 use std::sync::atomic::{AtomicU64, Ordering};
 use std::sync::{self, Wait};
@@ -34,9 +34,9 @@ fn lock_once<R: Wait>(rt: &R, mutex: &Mutex, pass: &mut MutexPass) -> bool
     requires { IsMutexPass mutex.now pass.old }
     ensures { HasStayed pass.old pass.new }
 {
-    match Mutex::lock(pass, mutex, rt, |_, _| WaitAction::Continue) {
+    match Mutex::lock(pass, mutex, rt, go_on) {
         WaitResult::Success(hold) => {
-            mutex.unlock(hold, |_| ());
+            mutex.unlock(hold, wake_nobody);
             true
         }
         WaitResult::Interrupted => false,
@@ -70,7 +70,7 @@ fn try_lock_once(mutex: &Mutex, pass: &mut MutexPass) -> bool
 {
     match Mutex::try_lock(pass, mutex) {
         WaitResult::Success(hold) => {
-            mutex.unlock(hold, |_| ());
+            mutex.unlock(hold, wake_nobody);
             true
         }
         WaitResult::Interrupted => false,

@@ -1,9 +1,9 @@
 //! The lines of the reader-preferring lock, and what they are compared with.
 ghost use Rattle.running_rw_reader.specs.RwReaderShown.{IsRwReaderPass, HasStayed};
 
-use crate::lines::{Operation, successes};
+use crate::lines::{Operation, go_on, successes};
 use iceoryx2_pal_concurrency_sync::strategy::rwlock::{RwLockReaderPreference, RwReaderPass};
-use iceoryx2_pal_concurrency_sync::{WaitAction, WaitResult};
+use iceoryx2_pal_concurrency_sync::{WaitResult, wake_nobody};
 use std::alloc::{AllocError, Global};
 use std::sync::atomic::{AtomicU64, Ordering};
 use std::sync::{RwLock, Wait};
@@ -34,9 +34,9 @@ fn read_once<R: Wait>(rt: &R, lock: &RwLockReaderPreference, pass: &mut RwReader
     requires { IsRwReaderPass lock.now pass.old }
     ensures { HasStayed pass.old pass.new }
 {
-    match RwLockReaderPreference::read_lock(pass, lock, rt, |_, _| WaitAction::Continue) {
+    match RwLockReaderPreference::read_lock(pass, lock, rt, go_on) {
         WaitResult::Success(hold) => {
-            lock.unlock(hold, |_| ());
+            lock.unlock(hold, wake_nobody);
             true
         }
         WaitResult::Interrupted => false,
@@ -69,9 +69,9 @@ fn write_once<R: Wait>(rt: &R, lock: &RwLockReaderPreference, pass: &mut RwReade
     requires { IsRwReaderPass lock.now pass.old }
     ensures { HasStayed pass.old pass.new }
 {
-    match RwLockReaderPreference::write_lock(pass, lock, rt, |_, _| WaitAction::Continue) {
+    match RwLockReaderPreference::write_lock(pass, lock, rt, go_on) {
         WaitResult::Success(hold) => {
-            lock.unlock(hold, |_| ());
+            lock.unlock(hold, wake_nobody);
             true
         }
         WaitResult::Interrupted => false,

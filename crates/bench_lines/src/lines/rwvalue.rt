@@ -1,9 +1,9 @@
 //! The lines of the value that many read.
 ghost use Rattle.running_rw_value.specs.RwValueShown.{IsRwValuePass};
 
-use crate::lines::{Operation, successes};
+use crate::lines::{Operation, go_on, successes};
 use iceoryx2_pal_concurrency_sync::strategy::rwlock::RwWriterPass;
-use iceoryx2_pal_concurrency_sync::{WaitAction, WaitResult};
+use iceoryx2_pal_concurrency_sync::{WaitResult, wake_nobody};
 use running_rw_value::RwLock;
 use std::alloc::{AllocError, Global};
 use std::sync::Wait;
@@ -27,13 +27,9 @@ struct Read<'r, R: Wait> {
 impl<R: Wait> Operation for Read<'_, R> {
     #[inline(always)]
     fn once(&mut self) -> bool {
-        let read = self.lock.with_read(
-            self.rt,
-            &mut self.pass,
-            |_, _| WaitAction::Continue,
-            |_| (),
-            |held| *held,
-        );
+        let read = self
+            .lock
+            .with_read(self.rt, &mut self.pass, go_on, wake_nobody, |held| *held);
         matches!(read, WaitResult::Success(true))
     }
 }
@@ -60,9 +56,9 @@ impl<R: Wait> Operation for Write<'_, R> {
         let written = self.lock.with_write(
             self.rt,
             &mut self.pass,
-            |_, _| WaitAction::Continue,
-            |_| (),
-            |_| (),
+            go_on,
+            wake_nobody,
+            wake_nobody,
             |held| *held,
         );
         matches!(written, WaitResult::Success(true))

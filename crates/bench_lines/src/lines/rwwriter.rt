@@ -1,9 +1,9 @@
 //! The lines of the writer-preferring lock, and what they are compared with.
 ghost use Rattle.running_rw_writer.specs.RwWriterShown.{IsRwWriterPass, HasStayed};
 
-use crate::lines::{Operation, successes};
+use crate::lines::{Operation, go_on, successes};
 use iceoryx2_pal_concurrency_sync::strategy::rwlock::{RwLockWriterPreference, RwWriterPass};
-use iceoryx2_pal_concurrency_sync::{WaitAction, WaitResult};
+use iceoryx2_pal_concurrency_sync::{WaitResult, wake_nobody};
 use std::alloc::{AllocError, Global};
 use std::sync::Wait;
 use std::sync::atomic::{AtomicU64, Ordering};
@@ -34,9 +34,9 @@ fn read_once<R: Wait>(rt: &R, lock: &RwLockWriterPreference, pass: &mut RwWriter
     requires { IsRwWriterPass lock.now pass.old }
     ensures { HasStayed pass.old pass.new }
 {
-    match RwLockWriterPreference::read_lock(pass, lock, rt, |_, _| WaitAction::Continue) {
+    match RwLockWriterPreference::read_lock(pass, lock, rt, go_on) {
         WaitResult::Success(hold) => {
-            lock.unlock(hold, |_| (), |_| ());
+            lock.unlock(hold, wake_nobody, wake_nobody);
             true
         }
         WaitResult::Interrupted => false,
@@ -69,16 +69,9 @@ fn write_once<R: Wait>(rt: &R, lock: &RwLockWriterPreference, pass: &mut RwWrite
     requires { IsRwWriterPass lock.now pass.old }
     ensures { HasStayed pass.old pass.new }
 {
-    match RwLockWriterPreference::write_lock(
-        pass,
-        lock,
-        rt,
-        |_, _| WaitAction::Continue,
-        |_| (),
-        |_| (),
-    ) {
+    match RwLockWriterPreference::write_lock(pass, lock, rt, go_on, wake_nobody, wake_nobody) {
         WaitResult::Success(hold) => {
-            lock.unlock(hold, |_| (), |_| ());
+            lock.unlock(hold, wake_nobody, wake_nobody);
             true
         }
         WaitResult::Interrupted => false,

@@ -2,8 +2,8 @@
 ghost use Rattle.running_semaphore.specs.SemaphoreShown.{IsSemPass};
 
 use crate::lines::{Operation, successes};
-use iceoryx2_pal_concurrency_sync::WaitResult;
 use iceoryx2_pal_concurrency_sync::strategy::semaphore::{SemPass, Semaphore};
+use iceoryx2_pal_concurrency_sync::{WaitResult, wake_nobody};
 use std::alloc::{AllocError, Global};
 use std::sync::Wait;
 
@@ -29,7 +29,7 @@ impl<R: Wait> Operation for TakeAndPost<'_, R> {
     #[inline(always)]
     fn once(&mut self) -> bool {
         let answer = self.semaphore.try_wait(self.rt, &mut self.pass);
-        self.semaphore.post(&mut self.pass, |_| (), 1);
+        self.semaphore.post(&mut self.pass, wake_nobody, 1);
         answer == WaitResult::Success(())
     }
 }
