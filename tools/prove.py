@@ -1,7 +1,7 @@
 #!/usr/bin/env python3
 """Proves, runs and tries what it is told, side by side: tools/prove.py [--lanes N] [--minutes K] [--count FILE] WHAT ..
 
-WHAT is `proofs`, `tests`, `programs`, `edits`, `tries` or `cases`, each alone or with the names of crates, as `proofs=sync_play,job_queue`:
+WHAT is `proofs`, `tests`, `programs`, `edits`, `tries` or `cases`, each alone or with the names of crates, as `proofs=sync_play,job_queue`, or `parts`:
 
     proofs     each crate, or those named and what they stand on, is proved, over what this machine keeps of the same text
     tests      the tests of each crate are proved and run
@@ -9,6 +9,7 @@ WHAT is `proofs`, `tests`, `programs`, `edits`, `tries` or `cases`, each alone o
     edits      each must-fail edit is tried, many in one check (tools/edits.py); after K minutes none is begun
     tries      the tests of each crate are run as they are, unproved
     cases      each text of examples is read by the programs as they are, unproved
+    parts      these parts of ./test, as `parts=docs,texts`: once the programs that play texts are built and the edits tried, where that is asked too
 
 It works in copies beside the checkout's history (.git/lanes), a lane each, since a command of rt locks the crates that it reads. What one of them has
 proved the others take, by links, and so does the next call. A line is printed for each part of a crate, on a terminal how far it is; then what it
@@ -26,6 +27,7 @@ import signal
 import subprocess
 import sys
 import tempfile
+import threading
 import time
 
 import edits
@@ -37,15 +39,18 @@ PARTS = ("src", "specs", "proofs", "must-fail", "data", "stdin", "stdout", "args
 WORDS = {"logic", "functions", "tests", "axioms", "target", "cpu", "threads", "main", "may-wait", "sum", "native", "logic-built", "libraries-built", "statements", "incremental"}
 # What the kit's own gate refuses beside what is not proved.
 REFUSED = re.compile(
-    r"^warning: no call of `(?!.*::fn::)|^note: the search for empty contracts did not end|^warning: calls of a tactic that chose a term"
+    r"^warning: calls of a tactic that chose a term"
     r"|^(?:\./)?(?:src|specs)/\S+ warning: this pattern binds a variable spelled like a constructor|^(?:\./)?(?:src|specs)/\S+: (?:note|warning): `search` stands in|^(?:\./)?proofs/\S+ note: `\S+` has chosen a term",
     re.M,
 )
 ONLY_TESTS = re.compile(r"(?://.*|#!?\[.*\]|mod tests;|\s)*")
 RESULT = re.compile(r"^test result: \w+\. (\d+) passed; (\d+) failed", re.M)
+COUNTED = re.compile(r"(\d+) passed, (\d+) failed(?:, (\d+) skipped)?")
 # The bytes that a proof writes for a line of its library, and those that have to be free besides: 52,100 lines took 14.3 GB.
 WRITTEN, SPARE = 275_000, 3_000_000_000
 FULL = "No space left on device"
+# Held while what refused edits is written.
+KEEPING = threading.Lock()
 # What each program reads, and what it writes of that.
 EXAMPLES = {
     "sync_play_main": ("examples/{}.txt", "examples/{}.out"),
@@ -100,10 +105,10 @@ class Task:
 
 
 class Told:
-    """What a task came to: what passed and failed, a line of it, and why where something failed."""
+    """What a task came to: what passed, failed and was skipped, a line of it, and why where something failed."""
 
-    def __init__(self, passed, failed=0, line="", why=""):
-        self.passed, self.failed, self.line, self.why = passed, failed, line, why
+    def __init__(self, passed, failed=0, line="", why="", skipped=0):
+        self.passed, self.failed, self.line, self.why, self.skipped = passed, failed, line, why, skipped
 
 
 class Shelf:
@@ -260,7 +265,7 @@ def prove(lane, crate, jobs):
         return Told(0, 1, "it is not laid out: rt fmt does so", said)
     if not crate.is_library:
         return Told(0)
-    words = ["--jobs", str(jobs), "--empty-contracts"]
+    words = ["--jobs", str(jobs)]
     status, said = lane.run(crate, ["rt", "lib", *words])
     if status == 0 and "\nlogic=" not in "\n" + said and lane.shelf.has(lane, crate):
         return Told(1, 0, "kept by this machine")
@@ -326,8 +331,20 @@ def play(lane, crate, jobs):
     return Told(number, 0, f"{number} examples are as they should be, unproved")
 
 
-# What refused each edit that was tried, by its crate and name.
-REFUSALS = {}
+class Part:
+    """A part of ./test, which is no crate's."""
+
+    def __init__(self, name):
+        self.name, self.below, self.edits = name, (), ()
+
+
+def try_part(lane, part, jobs):
+    ran = subprocess.run([f"{lane.top}/test", part.name], stdin=subprocess.DEVNULL, stdout=subprocess.PIPE, stderr=subprocess.STDOUT, text=True, errors="replace")
+    *said, last = ran.stdout.rstrip("\n").split("\n")
+    counted = COUNTED.fullmatch(last)
+    if not counted:
+        return Told(0, 1, "it did not come to its end", why_of(ran.stdout))
+    return Told(int(counted[1]), int(counted[2]), last, "\n".join(said), int(counted[3] or 0))
 
 
 class Tries:
@@ -352,7 +369,7 @@ class Tries:
         while (batch := batches.next()) and time.time() < self.until:
             batches.judge(batch, *check(batch))
             checks += 1
-        REFUSALS.update({f"{crate.name}/{name.removesuffix('.edit')}": why for name, why in batches.refusals.items() if why})
+        keep_refusals(f"{os.path.dirname(lane.folder)}/refused.json", {f"{crate.name}/{name.removesuffix('.edit')}": why for name, why in batches.refusals.items() if why})
         wrong = {name: it for name, it in batches.told.items() if it[0] != "refused"}
         refused, left = len(batches.told) - len(wrong), len(crate.edits) - len(batches.told)
         line = f"{refused} of its {len(crate.edits)} edits are refused, in {checks} checks" + (f"; {left} were not tried" if left else "")
@@ -392,6 +409,8 @@ def tasks_of(wanted, crates, until):
                 add("proofs", name, [("proofs", it) for it in crates[name].libraries], (120 + crates[name].lines) * crates[name].is_library, prove)
 
     for kind, names in wanted.items():
+        if kind == "parts":
+            continue
         chosen = [crates[it] for it in names or crates]
         below = lambda it: [("proofs", name) for name in [it.name, *it.libraries]]
         unproved = lambda it: 150 + sum(crates[name].lines for name in it.below) // 20
@@ -412,6 +431,9 @@ def tasks_of(wanted, crates, until):
                 add(kind, it.name, [], unproved(it), attempt)
             elif kind == "cases" and it.name in EXAMPLES:
                 add(kind, it.name, [], unproved(it), play)
+    for name in wanted.get("parts", ()):
+        after = [("programs", it) for it in EXAMPLES] + [it for it in tasks if it[0] == "edits"] * (name == "docs")
+        tasks["parts", name] = Task("parts", Part(name), after, 600, try_part)
     for task in tasks.values():
         task.after = [it for it in task.after if it in tasks and it != task.key]
     return tasks
@@ -444,7 +466,7 @@ def run_all(tasks, lanes, progress):
 
     def work(task, lane, jobs):
         began = time.time()
-        if any(given[it][0].failed for it in task.after if it[0] == "proofs"):
+        if any(given[it][0].failed for it in task.after if it[0] == "proofs" or task.kind == "parts" and it[0] == "programs"):
             return Told(0, 1, "not tried, since what it stands on is not proved"), 0
         try:
             lane.shelf.give(lane, task.crate)
@@ -494,12 +516,12 @@ def lanes_at(top):
     return f"{ran.stdout.strip()}/lanes" if ran.returncode == 0 else tempfile.mkdtemp(prefix="lanes-")
 
 
-def keep_refusals(path):
-    """Keeps what refused the edits, for tools/wrong_bodies.py."""
-    kept = json.loads(edits.text_of(path)) if os.path.exists(path) else {}
-    if REFUSALS and os.path.isdir(os.path.dirname(path)):
+def keep_refusals(path, refusals):
+    """Keeps what refused the edits of a crate, for tools/wrong_bodies.py."""
+    with KEEPING:
+        kept = json.loads(edits.text_of(path)) if os.path.exists(path) else {}
         with open(path, "w", encoding="utf-8") as it:
-            json.dump({**kept, **REFUSALS}, it, indent=1, sort_keys=True)
+            json.dump({**kept, **refusals}, it, indent=1, sort_keys=True)
 
 
 def tell(given, crates, tasks, began):
@@ -527,7 +549,8 @@ def main(words):
     top = os.path.dirname(os.path.dirname(os.path.realpath(__file__)))
     crates = crates_of(top)
     wanted = {it.partition("=")[0]: [name for name in it.partition("=")[2].split(",") if name] for it in asked.what}
-    unknown = [it for names in wanted.values() for it in names if it not in crates] + [it for it in wanted if it not in ("proofs", "tests", "programs", "edits", "tries", "cases")]
+    unknown = [it for kind, names in wanted.items() for it in names if kind != "parts" and it not in crates]
+    unknown += [it for it in wanted if it not in ("proofs", "tests", "programs", "edits", "tries", "cases", "parts")]
     if unknown:
         sys.exit(f"{unknown[0]}: there is no such crate, or nothing of that name is done\n{__doc__}")
     tasks = tasks_of(wanted, crates, time.time() + 60 * asked.minutes)
@@ -558,13 +581,12 @@ def main(words):
     finally:
         if at.startswith(tempfile.gettempdir()):
             shutil.rmtree(at, ignore_errors=True)
-    keep_refusals(f"{at}/refused.json")
-    passed, failed = (sum(getattr(it, what) for it, _ in given.values()) for what in ("passed", "failed"))
+    passed, failed, skipped = (sum(getattr(it, what) for it, _ in given.values()) for what in ("passed", "failed", "skipped"))
     tell(given, crates, tasks, began)
-    print(f"{passed} passed, {failed} failed", flush=True)
+    print(f"{passed} passed, {failed} failed" + f", {skipped} skipped" * bool(skipped), flush=True)
     if asked.count:
         with open(asked.count, "w", encoding="utf-8") as it:
-            it.write(f"{passed} {failed}\n")
+            it.write(f"{passed} {failed} {skipped}\n")
     return int(failed > 0)
 
 
