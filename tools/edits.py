@@ -2,7 +2,8 @@
 
 A proof reads other functions by their contracts alone, so wrong bodies of different functions of a crate do not meet, and one check judges them
 all: an edit is refused where a goal of its own function, or of a closure in it, stays open. What a check of several does not tell is tried again with
-what is left, and at last alone. An edit of a contract, a definition or a proof, or of several places, is tried alone from the first.
+what is left, and at last alone. An edit of a contract, a definition or a proof, or of several places, is tried alone from the first: on the law of
+its model, where it has one, and on the whole crate unless that refuses it.
 """
 import difflib
 import os
@@ -28,6 +29,9 @@ NAME_GONE = re.compile(r"has no field|has no `|is not in scope|: module `[^`]*`$
 # has to be proved: then the search gives up on the wrong body, and not on any that is changed there. One without shows nothing.
 GAVE_UP = re.compile(r"gave up at one of its limits|went on past its bounds|stopped at its own limit")
 AT_A_LIMIT = "SHOWS NOTHING without a control"
+# The function of a model whose contract is the law, and the last line of a check of it alone that did not prove it.
+LAW = "at_every_prefix"
+NO_LAW = re.compile(r"(?m)^only=1 proved=0$")
 # What a call requires that the edit may have brought in.
 REQUIRED = re.compile(r"it is not proved that what `(\w+)` requires holds at this call")
 
@@ -193,6 +197,17 @@ class Batches:
                 taken |= edit.functions
         return batch or self.apart[:1]
 
+    def has_law(self):
+        return os.path.isdir(f"{self.crate}/proofs/{LAW}")
+
+    def is_refused_by_law(self, edit, status, said):
+        """Takes what a check of the law alone said of an edit that is tried alone. Where it is not refused there, it is still to be tried."""
+        what = judged(edit, status, bool(NO_LAW.search(said)), reasons_of(said), said)
+        if what[0] == "refused":
+            self.apart.remove(edit)
+            self.tell(edit, what, refusal(open_clauses(said)) or by_lemmas(said))
+        return what[0] == "refused"
+
     def judge(self, batch, status, said):
         """Takes the status of a check with these edits, and what it said."""
         is_verdict = status == 1 and "logic=not-proved" in said
@@ -201,8 +216,7 @@ class Batches:
         if len(batch) == 1:
             # all that is open is due to it
             self.left, self.apart = ([it for it in own if it is not batch[0]] for own in (self.left, self.apart))
-            reasons = errors_of(said) + [it for own in goals.values() for it in own]
-            self.tell(batch[0], judged(batch[0], status, is_verdict, reasons, said), refusal(clauses) or by_lemmas(said))
+            self.tell(batch[0], judged(batch[0], status, is_verdict, reasons_of(said), said), refusal(clauses) or by_lemmas(said))
             return
         told = []
         for edit in batch:
@@ -252,6 +266,11 @@ def proved_in(said):
 def errors_of(said):
     """Each error that a check prints, but for those of proofs that cite a broken one."""
     return [it for it in re.findall(r"(?m)^\S+:\d+:\d+: error(?:\[[\w-]+\])?: (.*)", said) if not DEPENDS.search(it)]
+
+
+def reasons_of(said):
+    """All that a check says is wrong."""
+    return errors_of(said) + [it for own in open_goals(said).values() for it in own]
 
 
 def judged(edit, status, is_verdict, reasons, said):

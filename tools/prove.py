@@ -357,17 +357,19 @@ class Tries:
         folder = f"{lane.folder}/crates/{crate.name}"
         batches, checks = edits.Batches(folder, crate.edits), 0
 
-        def check(changed):
+        def check(changed, *words):
             new, old = edits.with_edits(folder, changed)
             try:
                 put(folder, new)
-                return lane.run(crate, ["rt", "check", "--jobs", str(jobs)])
+                return lane.run(crate, ["rt", "check", "--jobs", str(jobs), *words])
             finally:
                 put(folder, old)
                 lane.shelf.renew(lane, crate)
 
         while (batch := batches.next()) and time.time() < self.until:
-            batches.judge(batch, *check(batch))
+            on_law = batch[0].is_alone() and batches.has_law()
+            if not (on_law and batches.is_refused_by_law(batch[0], *check(batch, "--only", edits.LAW))):
+                batches.judge(batch, *check(batch))
             checks += 1
         keep_refusals(f"{os.path.dirname(lane.folder)}/refused.json", {f"{crate.name}/{name.removesuffix('.edit')}": why for name, why in batches.refusals.items() if why})
         wrong = {name: it for name, it in batches.told.items() if it[0] != "refused"}
