@@ -1,7 +1,7 @@
 # The tool that proves and tries edits, on a crate of three functions and one test: what is no bug, what cannot be read, and what is refused for a name
 # alone, fails it and says so, beside wrong bodies in the same check; so do a test that fails and a crate that is not proved. Of three edits on which a
 # search gave up, over a checker that only pretends, two fail: one has no control, and that of the other is refused like it. Each check there begins with
-# what was proved, and with nothing that the one before it left. A closure's open goal is held against the function in whose body it stands, and not
+# what was proved, and with nothing that the one before it left. An edit that the law refuses is not tried again, and one that it does not is. A closure's open goal is held against the function in whose body it stands, and not
 # against one of its own name. What was proved is kept from call to call, and does not serve another text. Where next to nothing of the disk is free,
 # nothing begins.
 test_batches() {
@@ -125,6 +125,24 @@ PY
     else
         fail "an edit of the function that a wrong closure is handed to" "it said: $(<"$room/out") $(tail -n 3 -- "$room/err")"
     fi
+    printf '%s\n' "file: proofs/no/Answers.antt" "old: ap not" "new: ap (not)" >"$crate/must-fail/no_is_proved_otherwise.edit"
+    attempt python3 - "$top" <<'PY'
+import sys
+
+sys.path.insert(0, f"{sys.argv[1]}/tools")
+import edits
+
+tries = edits.Batches(f"{sys.argv[1]}/crates/sizes", ["no_is_proved_otherwise.edit"])
+[edit] = tries.next()
+print(tries.is_refused_by_law(edit, 0, "only=1 proved=1"), *(it.name for it in tries.next()))
+print(tries.is_refused_by_law(edit, 1, "./proofs/Laws.antt:1:1: error: `step_law`: these differ\nonly=1 proved=0"), *tries.next(), *tries.told.items())
+PY
+    if [[ $(<"$room/out") == $'False no_is_proved_otherwise.edit\nTrue '"('no_is_proved_otherwise.edit', ('refused', '\`step_law\`: these differ'))" ]]; then
+        succeed
+    else
+        fail "an edit that the law refuses" "it said: $(<"$room/out") $(tail -n 3 -- "$room/err")"
+    fi
+    rm -- "$crate/must-fail/no_is_proved_otherwise.edit"
     attempt python3 - "$top" <<'PY'
 import collections
 import shutil
