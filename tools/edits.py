@@ -29,9 +29,9 @@ NAME_GONE = re.compile(r"has no field|has no `|is not in scope|: module `[^`]*`$
 # has to be proved: then the search gives up on the wrong body, and not on any that is changed there. One without shows nothing.
 GAVE_UP = re.compile(r"gave up at one of its limits|went on past its bounds|stopped at its own limit")
 AT_A_LIMIT = "SHOWS NOTHING without a control"
-# The function of a model whose contract is the law, and the last line of a check of it alone that did not prove it.
+# The function of a model whose contract is the law, and the line of a check that did not prove it.
 LAW = "at_every_prefix"
-NO_LAW = re.compile(r"(?m)^only=1 proved=0$")
+NO_LAW = re.compile(rf"(?m)^fn \w+::{LAW}: (?!proved)")
 # What a call requires that the edit may have brought in.
 REQUIRED = re.compile(r"it is not proved that what `(\w+)` requires holds at this call")
 

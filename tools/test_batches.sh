@@ -134,8 +134,9 @@ import edits
 
 tries = edits.Batches(f"{sys.argv[1]}/crates/sizes", ["no_is_proved_otherwise.edit"])
 [edit] = tries.next()
-print(tries.is_refused_by_law(edit, 0, "only=1 proved=1"), *(it.name for it in tries.next()))
-print(tries.is_refused_by_law(edit, 1, "./proofs/Laws.antt:1:1: error: `step_law`: these differ\nonly=1 proved=0"), *tries.next(), *tries.told.items())
+print(tries.is_refused_by_law(edit, 0, "fn sizes::at_every_prefix: proved"), *(it.name for it in tries.next()))
+said = "./proofs/Laws.antt:1:1: error: `step_law`: these differ\nfn sizes::at_every_prefix: not proved"
+print(tries.is_refused_by_law(edit, 1, said), *tries.next(), *tries.told.items())
 PY
     if [[ $(<"$room/out") == $'False no_is_proved_otherwise.edit\nTrue '"('no_is_proved_otherwise.edit', ('refused', '\`step_law\`: these differ'))" ]]; then
         succeed
