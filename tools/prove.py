@@ -49,6 +49,8 @@ COUNTED = re.compile(r"(\d+) passed, (\d+) failed(?:, (\d+) skipped)?")
 # The bytes that a proof writes for a line of its library, and those that have to be free besides: 52,100 lines took 14.3 GB.
 WRITTEN, SPARE = 275_000, 3_000_000_000
 FULL = "No space left on device"
+# The parts of ./test that play texts by these programs.
+PLAYING = {"examples", "explore", "texts", "streams", "broken", "conform"}
 # Held while what refused edits is written.
 KEEPING = threading.Lock()
 # What each program reads, and what it writes of that.
@@ -434,7 +436,7 @@ def tasks_of(wanted, crates, until):
             elif kind == "cases" and it.name in EXAMPLES:
                 add(kind, it.name, [], unproved(it), play)
     for name in wanted.get("parts", ()):
-        after = [("programs", it) for it in EXAMPLES] + [it for it in tasks if it[0] == "edits"] * (name == "docs")
+        after = [("programs", it) for it in EXAMPLES if name in PLAYING] + [it for it in tasks if it[0] == "edits" and name == "docs"]
         tasks["parts", name] = Task("parts", Part(name), after, 600, try_part)
     for task in tasks.values():
         task.after = [it for it in task.after if it in tasks and it != task.key]
