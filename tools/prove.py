@@ -515,9 +515,9 @@ def ordered(tasks):
 
 
 def lanes_at(top):
-    """Where the lanes are kept: with the checkout's history, or nowhere for long."""
+    """Where the lanes are, and whether they stay: with the checkout's history, where it has one."""
     ran = subprocess.run(["git", "rev-parse", "--absolute-git-dir"], cwd=top, stdout=subprocess.PIPE, stderr=subprocess.DEVNULL, text=True)
-    return f"{ran.stdout.strip()}/lanes" if ran.returncode == 0 else tempfile.mkdtemp(prefix="lanes-")
+    return (f"{ran.stdout.strip()}/lanes", True) if ran.returncode == 0 else (tempfile.mkdtemp(prefix="lanes-"), False)
 
 
 def keep_refusals(path, refusals):
@@ -562,7 +562,7 @@ def main(words):
         for at, name in enumerate(reversed(latest_first(top))):
             if ("edits", name) in tasks:
                 tasks["edits", name].behind += 1_000_000 * (at + 1)
-    at, began = lanes_at(top), os.times()
+    (at, stays), began = lanes_at(top), os.times()
     os.makedirs(at, exist_ok=True)
     held = open(f"{at}/lock", "w", encoding="utf-8")
     try:
@@ -583,7 +583,7 @@ def main(words):
             it.stop()
         sys.exit(130)
     finally:
-        if at.startswith(tempfile.gettempdir()):
+        if not stays:
             shutil.rmtree(at, ignore_errors=True)
     passed, failed, skipped = (sum(getattr(it, what) for it, _ in given.values()) for what in ("passed", "failed", "skipped"))
     tell(given, crates, tasks, began)

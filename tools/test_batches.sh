@@ -144,6 +144,12 @@ PY
         fail "an edit that the law refuses" "it said: $(<"$room/out") $(tail -n 3 -- "$room/err")"
     fi
     rm -- "$crate/must-fail/no_is_proved_otherwise.edit"
+    attempt python3 "$top/tools/prove.py" proofs
+    if [[ $status == 0 && $(<"$room/out") == *"kept by this machine: sizes"* ]]; then
+        succeed
+    else
+        fail "a crate that an earlier call proved" "it said: $(<"$room/out") $(tail -n 3 -- "$room/err")"
+    fi
     attempt python3 - "$top" <<'PY'
 import collections
 import shutil
@@ -152,6 +158,7 @@ import sys
 sys.path.insert(0, f"{sys.argv[1]}/tools")
 import prove
 
+shutil.rmtree(f"{sys.argv[1]}/.git/lanes")
 shutil.disk_usage = lambda folder: collections.namedtuple("Room", "free")(2_000_000_000)
 sys.exit(prove.main(["proofs"]))
 PY
