@@ -1,9 +1,9 @@
 # The tool that proves and tries edits, on a crate of three functions and one test: what is no bug, what cannot be read, and what is refused for a name
 # alone, fails it and says so, beside wrong bodies in the same check; so do a test that fails and a crate that is not proved. Of three edits on which a
 # search gave up, over a checker that only pretends, two fail: one has no control, and that of the other is refused like it. Each check there begins with
-# what was proved, and with nothing that the one before it left. An edit that the law refuses is not tried again, and one that it does not is. A closure's open goal is held against the function in whose body it stands, and not
-# against one of its own name. What was proved is kept from call to call, and does not serve another text. Where next to nothing of the disk is free,
-# nothing begins.
+# what was proved, and with nothing that the one before it left. An edit that the law refuses is not tried again, and one that it does not is. A
+# closure's open goal is held against the function in whose body it stands, and not against one of its own name. What was proved is kept from call to
+# call, and does not serve another text. Where next to nothing of the disk is free, and something is to be proved, nothing begins.
 test_batches() {
     local top=$room/batches crate=$room/batches/crates/sizes
     mkdir -p -- "$top/tools" "$crate/src" "$crate/proofs/no" "$crate/must-fail"
@@ -158,7 +158,7 @@ import sys
 sys.path.insert(0, f"{sys.argv[1]}/tools")
 import prove
 
-shutil.rmtree(f"{sys.argv[1]}/.git/lanes")
+shutil.rmtree(f"{sys.argv[1]}/.git/lanes", ignore_errors=True)
 shutil.disk_usage = lambda folder: collections.namedtuple("Room", "free")(2_000_000_000)
 sys.exit(prove.main(["proofs"]))
 PY
