@@ -10,15 +10,21 @@ import os
 import re
 
 HEAD = re.compile(r"^(\s*)(?:pub(?:\([^)]*\))?\s+)?(?:const\s+|unsafe\s+)*fn (\w+)")
+IMPL = re.compile(r"\s*impl\b(?:<.*?>)?\s+(?:.*\sfor\s+)?&?(\w+)")
+# The path of a function whose proof is kept.
+KEPT = re.compile(r"/Rattle-\w+-proofs\.(.+)\.Tie\.oantt$")
+# What each function that edits of a batch change has last among its answers: one to no goal of it. A search is made for the others all the same; but of
+# a function that lacks answers, and has no wrong one, rt has antt print all that it could be answered, which takes up to half of the check.
+ASKED_BY_NONE = "asked_by_none"
+ANSWER = f"pub {ASKED_BY_NONE} : goal.{ASKED_BY_NONE}\n{ASKED_BY_NONE} = ?\n"
 # A goal that a check leaves open: the path of the proof file that it stands in, and what is said of it.
 GOAL = re.compile(r"^(?:note: )?\./(?:proofs/(\S*\w)/(?:Answers|Invariants|Proof)\.antt|\S+):\d+:\d+: error(?:\[[\w-]+\])?: (.*)")
-# One that has no answer, and was searched for in vain; it is told before the line of its function.
-UNANSWERED = re.compile(r"^note: \S+:\d+:\d+: (it is not proved that .*)")
+# One that has no answer, and was searched for in vain; it is told before the line of its function. Of several at once it is told that no proof was found.
+UNANSWERED = re.compile(r"^note: \S+:\d+:\d+: (?:(it is not proved that .*)|`search` found no proof .*)")
 FUNCTION = re.compile(r"^fn (\S*\w): (.*)")
 # A closure's path has the function in whose body it stands, and last what it is named by, as the function that it is handed to.
 CLOSURE = re.compile(r"(?:^|::|/)fn(?:::|/)(?:[A-Z][^:/]*(?:::|/))*(\w+)")
-# The goals that a search did not prove, and the one that an error is in.
-UNPROVED = re.compile(r"^fn (\S*\w): no proof: expected answers.*?did not prove (.*?)(?:; it calls.*)?$")
+# The goal that an error is in.
 WRONG_ANSWER = re.compile(r"^(?:note: )?\./proofs/(\S*\w)/(?:Answers|Invariants|Proof)\.antt:\d+:\d+: error(?:\[[\w-]+\])?: `([^`]+)`")
 # What is said of a proof that cites a broken one: no goal of its own.
 DEPENDS = re.compile(r"declarations? that depends? on `")
@@ -46,7 +52,7 @@ class Edit:
     def __init__(self, crate, name):
         self.name = name
         texts = applied(crate, name)
-        self.hunks, functions, words, had = {}, set(), set(), set()
+        self.hunks, self.impls, functions, words, had = {}, {}, set(), set(), set()
         for path, new in texts.items():
             old, new = text_of(f"{crate}/{path}").split("\n"), new.split("\n")
             codes = difflib.SequenceMatcher(None, old, new, autojunk=False).get_opcodes()
@@ -54,7 +60,10 @@ class Edit:
             for start, end, lines in self.hunks[path]:
                 had |= words_of(old[start:end])
                 words |= words_of(lines)
-            functions |= {body_at(old, start) if path.startswith("src/") else None for start, _, _ in self.hunks[path]}
+            for start, _, _ in self.hunks[path]:
+                function = body_at(old, start) if path.startswith("src/") else None
+                functions.add(function)
+                self.impls[function] = next((it[1] for line in reversed(old[:start]) if (it := IMPL.match(line))), "")
         self.functions = frozenset() if None in functions else frozenset(functions)
         self.brought = words - had
 
@@ -115,6 +124,22 @@ def with_edits(crate, edits):
     return new, old
 
 
+def with_answers(crate, edits, kept):
+    """The files of answers of the functions that these edits change, with one more that no goal asks for, and the files as they were, where they are
+    there. Of what is kept the names tell the functions' paths. One of several of its name, in types of one name, has none."""
+    new, old = {}, {}
+    paths = [it[1].split(".") for name in kept if (it := KEPT.search(name))]
+    for function, of in {pair for edit in edits for pair in edit.impls.items()}:
+        found = [it for it in paths if it[-1].lstrip("+") == function and "fn" not in it]
+        found = [it for it in found if it[-2:-1] == [of]] if len(found) > 1 else found
+        for names in found if len(found) == 1 else []:
+            path = f"proofs/{'/'.join(names)}/Answers.antt"
+            old[path] = text_of(f"{crate}/{path}") if os.path.exists(f"{crate}/{path}") else None
+            goals = f"use Rattle.{os.path.basename(crate)}.proofs.{'.'.join(names)}.Goals as goal\n"
+            new[path] = f"{old[path] or goals}\n{ANSWER}"
+    return new, old
+
+
 def owner(path):
     """The function that a path is of, or in whose body the closure stands that it is of. A cycle of calls is of a name of its own, with a `+`."""
     return (CLOSURE.search(path) or re.search(r"(\+?\w+)$", path))[1]
@@ -128,7 +153,7 @@ def open_goals(said):
         if goal and goal[1] and not DEPENDS.search(line):
             found.setdefault(owner(goal[1]), []).append(goal[2])
         elif note:
-            unanswered.append(note[1])
+            unanswered.append(note[1] or "no proof was found")
         elif function:
             if function[2].startswith("no proof: expected answers") and not unanswered:
                 unanswered.append("no proof was found")
@@ -150,13 +175,16 @@ def telling(reasons, brought):
 
 def open_clauses(said):
     """Of each function whose goals a check leaves open, in its order, which clauses they are of; a goal of no clause by its own name."""
-    found = {}
+    found, unanswered = {}, []
     for line in said.split("\n"):
-        unproved, wrong = UNPROVED.match(line), WRONG_ANSWER.match(line)
-        goals = re.findall(r"`([^`]+)`", unproved[2]) if unproved else [wrong[2]] if wrong and not DEPENDS.search(line) else []
-        for goal in goals:
+        wrong, note, function = WRONG_ANSWER.match(line), UNANSWERED.match(line), FUNCTION.match(line)
+        if note:
+            unanswered += re.findall(r"\(`([^`]+)`\)", line)
+        for goal in [wrong[2]] if wrong and not DEPENDS.search(line) else unanswered if function else []:
             clause = re.search(r"-clause-(\w+)$", goal)
-            found.setdefault(owner((unproved or wrong)[1]), {})[clause[1] if clause else "its one clause" if goal.startswith("returns") else goal] = True
+            found.setdefault(owner((wrong or function)[1]), {})[clause[1] if clause else "its one clause" if goal.startswith("returns") else goal] = True
+        if function:
+            unanswered = []
     return {name: [*clauses] for name, clauses in found.items()}
 
 
@@ -208,12 +236,17 @@ class Batches:
             self.tell(edit, what, refusal(open_clauses(said)) or by_lemmas(said))
         return what[0] == "refused"
 
+    def asked(self, batch):
+        """Those of a batch that are judged by the goals of their own functions."""
+        return [it for it in batch if it not in self.apart and it.name not in self.waiting]
+
     def judge(self, batch, status, said):
         """Takes the status of a check with these edits, and what it said."""
+        said = "\n".join(it for it in said.split("\n") if f"`{ASKED_BY_NONE}`" not in it)
         is_verdict = status == 1 and "logic=not-proved" in said
         goals = open_goals(said) if is_verdict else {}
         clauses = open_clauses(said) if is_verdict else {}
-        if len(batch) == 1:
+        if len(batch) == 1 and (batch[0] in self.apart or not is_verdict or reasons_of(said)):
             # all that is open is due to it
             self.left, self.apart = ([it for it in own if it is not batch[0]] for own in (self.left, self.apart))
             self.tell(batch[0], judged(batch[0], status, is_verdict, reasons_of(said), said), refusal(clauses) or by_lemmas(said))

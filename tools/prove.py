@@ -358,9 +358,10 @@ class Tries:
     def __call__(self, lane, crate, jobs):
         folder = f"{lane.folder}/crates/{crate.name}"
         batches, checks = edits.Batches(folder, crate.edits), 0
+        kept = glob.glob(f"{lane.made_of(crate.name)}/incremental/*/*")
 
         def check(changed, *words):
-            new, old = edits.with_edits(folder, changed)
+            new, old = (a | b for a, b in zip(edits.with_edits(folder, changed), edits.with_answers(folder, batches.asked(changed), kept)))
             try:
                 put(folder, new)
                 return lane.run(crate, ["rt", "check", "--jobs", str(jobs), *words])
@@ -381,7 +382,12 @@ class Tries:
 
 
 def put(folder, texts):
+    """Writes these files of a folder, and takes away those that have no text."""
     for path, text in texts.items():
+        if text is None:
+            os.remove(f"{folder}/{path}")
+            continue
+        os.makedirs(os.path.dirname(f"{folder}/{path}"), exist_ok=True)
         with open(f"{folder}/{path}", "w", encoding="utf-8") as it:
             it.write(text)
 

@@ -60,11 +60,13 @@ ANTT
     plant yes_is_no "    true" "    false"
     plant no_is_yes "    !yes()" "    yes()"
     plant another_way "    let again = given;" "    let again: u64 = given;"
+    plant another_way_with_answers "    !yes()" "    (!yes())"
+    plant another_way_below "    true" "    (true)"
     plant says_so_by_a_name "    !yes()" "    { let is = yes(); !is }"
     plant cannot_be_read "    !yes()" "    !yes("
     plant stands_nowhere "    maybe()" "    yes()"
-    tries "edits of which two are wrong bodies" "edits tests" "4 passed, 4 failed" \
-        "2 of its 6 edits are refused" "another_way.edit: NOT REFUSED" "says_so_by_a_name.edit: SHOWS NOTHING" "cannot_be_read.edit: BAD" \
+    tries "edits of which two are wrong bodies" "edits tests" "4 passed, 6 failed" \
+        "2 of its 8 edits are refused" "another_way.edit: NOT REFUSED" "another_way_with_answers.edit: NOT REFUSED" "another_way_below.edit: NOT REFUSED" "says_so_by_a_name.edit: SHOWS NOTHING" "cannot_be_read.edit: BAD" \
         "stands_nowhere.edit: BAD"
     printf '%s\n' "file: src/lib.rt" "old:     true" "new:     { let is = true; is }" >"$crate/must-fail/yes_is_no.control.md"
     printf '%s\n' "file: src/lib.rt" "old:     again" "new:     3" >"$crate/must-fail/same_is_three.edit"

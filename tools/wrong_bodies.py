@@ -72,7 +72,7 @@ def reasons_of(top):
             elif line.startswith("| `"):
                 name, _, why = re.split(r"(?<!\\) \| ", line.strip("| "))
                 found[crate, name.strip("`")] = why
-    kept = f"{prove.lanes_at(top)}/refused.json"
+    kept = f"{prove.lanes_at(top)[0]}/refused.json"
     if os.path.exists(kept):
         with open(kept, encoding="utf-8") as it:
             for key, why in json.load(it).items():

@@ -180,33 +180,35 @@ module _ (n : ℕ) (past : List (Event ℕ)) (call : Call ℕ) (t rest : Rounds)
   abbrev Goes : Act ℕ → Type 0
   Goes act = (n ≡ 0 → cond (is_arrival act) 1 0 + a ≡ 0) → AreRounds n (cond (is_arrival act) 1 0 + a) (both_rounds (rounds_after n past act call t) rest)
 
-  module _ (fits : n < 2 ^ 32) (memory : Word → ℕ) (counts : CountsArrivals n a (memory Word.State)) (nobody : n ≡ 0 → a ≡ 0) (is : AreRounds n a (both_rounds t rest)) where
-    not_more : (u : Rounds) → AreRounds n a u → AreRounds n (0 + a) u
-    not_more u = subst (λ (b : ℕ). AreRounds n b u) (let same : a ≡ 0 + a = omega arith in same)
+  not_more : (u : Rounds) → AreRounds n a u → AreRounds n (0 + a) u
+  not_more u = subst (λ (b : ℕ). AreRounds n b u) (let same : a ≡ 0 + a = omega arith in same)
 
-    sees : AreRounds n (0 + a) (both_rounds (reaching (a / n) t) rest)
-    sees = let known = is.known in not_more (both_rounds (reaching (a / n) t) rest) (again n a (both_rounds t rest) (both_rounds (reaching (a / n) t) rest) is refl refl (omega (arith, known)))
+  sees : AreRounds n a (both_rounds t rest) → AreRounds n (0 + a) (both_rounds (reaching (a / n) t) rest)
+  sees is = let known = is.known in not_more (both_rounds (reaching (a / n) t) rest) (again n a (both_rounds t rest) (both_rounds (reaching (a / n) t) rest) is refl refl (omega (arith, known)))
 
-    exchanged : (from to : ℕ) (done : Bool) → (memory Word.State == from) ≡ done → Goes (Act.Exchange Word.State from to (memory Word.State) done)
-    exchanged from to false test nil = sees
-    exchanged from to true test nil =
-        let some : 0 < n = dite (ℕ_discrete n 0) (λ none_come. absurd (let e = nil none_come in omega (arith, e))) (λ other. omega (arith, other)) in
-        let count : count_of from ≡ a % n = ap count_of (sym (eqb-true (memory Word.State) from test)) ∙ (word_says n a (memory Word.State) fits counts nobody).0 in
-        let all = arrives n a from (both_rounds t rest) some count is in
-        let now = all.known in let known = is.known in
-        again n (1 + a) (arrived n from (a / n) (both_rounds t rest)) (both_rounds (arrived n from (a / n) t) rest) all (more_in_both (a / n) t.arrivals rest.arrivals) (omega arith) (omega (arith, now, known))
-
-    goes_at : (place : BarrierPlace) → Goes (carried_out (barrier_intent Word.State place) memory)
-    goes_at (BarrierPlace.Look m) nil = sees
-    goes_at (BarrierPlace.Arrive m seen to) nil = exchanged seen to (memory Word.State == seen) refl nil
-    goes_at BarrierPlace.Wake nil = not_more (both_rounds t rest) is
-    goes_at (BarrierPlace.Stay epoch spins) nil = sees
+  arrives_more : (w from : ℕ) → n < 2 ^ 32 → CountsArrivals n a w → (n ≡ 0 → a ≡ 0) → AreRounds n a (both_rounds t rest) → w ≡ from → (n ≡ 0 → 1 + a ≡ 0) → AreRounds n (1 + a) (both_rounds (arrived n from (a / n) t) rest)
+  arrives_more w from fits counts nobody is there nil =
+      let some : 0 < n = dite (ℕ_discrete n 0) (λ none_come. absurd (let e = nil none_come in omega (arith, e))) (λ other. omega (arith, other)) in
+      let count : count_of from ≡ a % n = ap count_of (sym there) ∙ (word_says n a w fits counts nobody).0 in
+      let all = arrives n a from (both_rounds t rest) some count is in
+      let now = all.known in let known = is.known in
+      again n (1 + a) (arrived n from (a / n) (both_rounds t rest)) (both_rounds (arrived n from (a / n) t) rest) all (more_in_both (a / n) t.arrivals rest.arrivals) (omega arith) (omega (arith, now, known))
 
 pub rounds_go_on : (n : ℕ) → n < 2 ^ 32 → GoesOnByActs (barrier_model n) both_rounds (AreRoundsIn n) (λ past _. rounds_after n past) (λ _ _. Unit {0})
 rounds_go_on n fits call place hold past e found step t rest needs is =
     let law = (keeps_barrier u64_arithmetic n step.parties (e ∷ past) fits step.run).law in
-    let was = step.law.law in
-    subst (Goes n past call t rest) (sym (step.act ∙ step.found_is)) (goes_at n past call t rest fits (word_in (barrier_table n) past) was.counts (λ nil. (was.nobody nil).0) is place) (λ nil. (law.nobody nil).0)
+    subst (Goes n past call t rest) (sym (step.act ∙ step.found_is)) (goes_at place) (λ nil. (law.nobody nil).0)
+  where
+    exchanged : (from to : ℕ) (done : Bool) → (word_in (barrier_table n) past Word.State == from) ≡ done → Goes n past call t rest (Act.Exchange Word.State from to (word_in (barrier_table n) past Word.State) done)
+    exchanged from to false test nil = sees n past call t rest is
+    exchanged from to true test nil =
+        arrives_more n past call t rest (word_in (barrier_table n) past Word.State) from fits step.law.law.counts (λ nil. (step.law.law.nobody nil).0) is (eqb-true (word_in (barrier_table n) past Word.State) from test) nil
+
+    goes_at : (place : BarrierPlace) → Goes n past call t rest (carried_out (barrier_intent Word.State place) (word_in (barrier_table n) past))
+    goes_at (BarrierPlace.Look m) nil = sees n past call t rest is
+    goes_at (BarrierPlace.Arrive m seen to) nil = exchanged seen to (word_in (barrier_table n) past Word.State == seen) refl nil
+    goes_at BarrierPlace.Wake nil = not_more n past call t rest (both_rounds t rest) is
+    goes_at (BarrierPlace.Stay epoch spins) nil = sees n past call t rest is
 
 pub waiters_fit : (key : ℕ) → key % 2 ^ 32 < 2 ^ 32
 waiters_fit key = omega arith

@@ -77,10 +77,6 @@ abbrev CountsMore : {P : Type 0} → Table ℕ P → PendingCall ℕ → Act ℕ
 CountsMore t c act call word counts rest =
     ((holds_after act call counts).holds + rest.holds ≡ word_after Word.State act word) × ((holds_after act call counts).grants ≡ grants_by t HoldKind.Write act (Some c) + counts.grants)
 
-counts_more : {P : Type 0} (t : Table ℕ P) (c : PendingCall ℕ) (had : Option HoldKind) (call : Call ℕ) (memory : Word → ℕ) (counts rest : Holds) (intent : Intent ℕ) → IsLockIntent (t.grant c.call 0 1) had intent → memory Word.State ≤ 1 →
-    counts.holds + rest.holds ≡ memory Word.State → holds_needed (carried_out intent memory) counts → CountsMore t c (carried_out intent memory) call (memory Word.State) counts rest
-counts_more t c had call memory counts rest intent h1 h2 h3 h4 = grind (arith, nat_tests, eqb-true, eqb-false)
-
 -- The model of a lock with one holder at most.
 abbrev pub IsForOne : {P : Type 0} → Model ℕ P → Type 0
 IsForOne m = (parties : ℕ) → IsLock m.arithmetic m.table parties
@@ -106,3 +102,7 @@ module _ {P : Type 0} (m : Model ℕ P) (lock : IsForOne m) where
         one = subst (λ n. n ≤ 1) (sym more.0) after.1;
         grants = next_grants m.table HoldKind.Write past e counts.grants (holds_after e.act call counts).grants rest.grants (more.1 ∙ ap (λ (k : Option (PendingCall ℕ)). grants_by m.table HoldKind.Write e.act k + counts.grants) (sym step.under_way)) is.grants;
       }
+    where
+      counts_more : {P : Type 0} (t : Table ℕ P) (c : PendingCall ℕ) (had : Option HoldKind) (call : Call ℕ) (memory : Word → ℕ) (counts rest : Holds) (intent : Intent ℕ) → IsLockIntent (t.grant c.call 0 1) had intent → memory Word.State ≤ 1 →
+          counts.holds + rest.holds ≡ memory Word.State → holds_needed (carried_out intent memory) counts → CountsMore t c (carried_out intent memory) call (memory Word.State) counts rest
+      counts_more t c had call memory counts rest intent h1 h2 h3 h4 = grind (arith, nat_tests, eqb-true, eqb-false)

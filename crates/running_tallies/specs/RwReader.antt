@@ -84,12 +84,13 @@ word_fits w holds h1 = grind (arith, nat_tests, eqb-true, eqb-false)
 abbrev LocksAfter : Act ℕ → Call ℕ → ℕ → Holds → Holds → Type 0
 LocksAfter act call w t rest = Locks (word_after Word.State act w) tt (both_holds (held_after act call t) rest)
 
-goes : (place : RwReaderPlace) (c : PendingCall ℕ) (hold : Option HoldKind) (call : Call ℕ) (memory : Word → ℕ) (t rest : Holds) → AtRwReader place c hold → Locks (memory Word.State) tt (both_holds t rest) → memory Word.State < 2 ^ 64 →
+abbrev Goes : Type 0
+Goes =
+    (place : RwReaderPlace) (c : PendingCall ℕ) (hold : Option HoldKind) (call : Call ℕ) (memory : Word → ℕ) (t rest : Holds) → AtRwReader place c hold → Locks (memory Word.State) tt (both_holds t rest) → memory Word.State < 2 ^ 64 →
     held_needed (carried_out (rw_reader_intent Word.State place hold) memory) t → LocksAfter (carried_out (rw_reader_intent Word.State place hold) memory) call (memory Word.State) t rest
-goes place c hold call memory t rest h1 h2 h3 h4 = grind (arith, nat_tests, eqb-true, eqb-false)
 
-pub holds_go_on : GoesOnByActs rw_reader_model both_holds (AreHoldsIn rw_reader_table) (λ _ _. held_after) held_needed
-holds_go_on call place hold past e found step t rest has is =
+goes_on_by : Goes → GoesOnByActs rw_reader_model both_holds (AreHoldsIn rw_reader_table) (λ _ _. held_after) held_needed
+goes_on_by goes call place hold past e found step t rest has is =
     let act = step.act ∙ step.found_is in
     let w : ℕ = word_in rw_reader_table past Word.State in
     let before = step.law.law.counts in
@@ -98,3 +99,9 @@ holds_go_on call place hold past e found step t rest has is =
     (goes place step.pending hold call (word_in rw_reader_table past) t rest at (locks w (holds_of rw_reader_table past) (both_holds t rest) before is.reads is.writes) (word_fits w (holds_of rw_reader_table past) before) (subst (λ (a : Act ℕ). held_needed a t) act has)) in
     let both = counted (word_in rw_reader_table (e ∷ past) Word.State) (holds_of rw_reader_table (e ∷ past)) (both_holds (held_after e.act call t) rest) (rw_reader_lawful step.parties (e ∷ past) step.run).law.counts left in
     record { reads = both.0; writes = both.1 }
+
+pub holds_go_on : GoesOnByActs rw_reader_model both_holds (AreHoldsIn rw_reader_table) (λ _ _. held_after) held_needed
+holds_go_on = goes_on_by goes
+  where
+    goes : Goes
+    goes place c hold call memory t rest h1 h2 h3 h4 = grind (arith, nat_tests, eqb-true, eqb-false)

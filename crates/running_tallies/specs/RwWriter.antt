@@ -1,5 +1,5 @@
 -- What the passes of a writer-preferring lock count, the model that it plays, and that the counts follow the run.
-use Rattle.running_tallies.specs.Names.{◌≡◌, ℕ, ◌+◌, ◌-◌, ◌*◌, ◌^◌, ◌<◌, ◌≤◌, ◌==◌, true, false, if◌then◌else◌, List, Act, Call, Event, Word, HoldKind, grants_in, u64_arithmetic, Model, IsPast, ◌%◌, Bool, refl, sym, subst, ◌∙◌, [], ◌∷◌, Option, Some, arith, eqb-true, eqb-false, nat_tests, word_in, word_after, hold_of, carried_out, Intent, Hold, PendingCall, call_of, holds_of, reads_in, writes_in, IsTally, StaysOnNoWord, GoesOnByActs, grants_by, same_grants, next_grants}
+use Rattle.running_tallies.specs.Names.{◌≡◌, ℕ, ◌+◌, ◌-◌, ◌*◌, ◌^◌, ◌<◌, ◌≤◌, ◌==◌, inl, inr, true, false, if◌then◌else◌, List, Act, Call, Event, Word, HoldKind, grants_in, u64_arithmetic, Model, IsPast, ◌%◌, Bool, refl, sym, subst, ◌∙◌, [], ◌∷◌, Option, Some, arith, eqb-true, eqb-false, nat_tests, word_in, word_after, hold_of, carried_out, Intent, Hold, PendingCall, call_of, holds_of, reads_in, writes_in, IsTally, StaysOnNoWord, GoesOnByActs, grants_by, same_grants, next_grants}
 use Rattle.running_passes.specs.declared.part.Sights.{Sights}
 use Rattle.running_passes.specs.Sights.{seen, seen_instead, stale}
 use Rattle.running_tallies.specs.declared.held.Held.TheVariants.{Writing}
@@ -137,30 +137,19 @@ counted_so w hs set t h1 h2 = grind (arith, nat_tests, eqb-true, eqb-false)
 abbrev MarkedAfter : Act ℕ → Call ℕ → ℕ → MarkedHolds → MarkedHolds → Type 0
 MarkedAfter act call w t rest = IsMarkedOrHeld (word_after Word.State act w) (both_marked (marked_after act call t) rest)
 
-sees_again : (w : ℕ) (t rest : MarkedHolds) → IsMarkedOrHeld w (both_marked t rest) → IsMarkedOrHeld w (both_marked (lowered w t) rest)
-sees_again w t rest h1 = grind (arith, nat_tests, eqb-true, eqb-false)
-
-reads_off : (w : ℕ) (t rest : MarkedHolds) → IsMarkedOrHeld w (both_marked t rest) → 0 < read_holds t.held → IsMarkedOrHeld ((w + (2 ^ 64 - 2)) % 2 ^ 64) (both_marked (no_more_read t) rest)
-reads_off w t rest h1 h2 = grind (arith, nat_tests, eqb-true, eqb-false)
-
-writes_off : (w : ℕ) (t rest : MarkedHolds) → IsMarkedOrHeld w (both_marked t rest) → write_holds t.held ≡ 1 → IsMarkedOrHeld 0 (both_marked (no_more_written t) rest)
-writes_off w t rest h1 h2 = grind (arith, nat_tests, eqb-true, eqb-false)
-
-exchanges : (call by : Call ℕ) (from to w : ℕ) (t rest : MarkedHolds) → IsExchange by from to → IsMarkedOrHeld w (both_marked t rest) → MarkedAfter (Act.Exchange Word.State from to w (w == from)) call w t rest
-exchanges call by from to w t rest h1 h2 = grind (arith, nat_tests, eqb-true, eqb-false)
-
-goes : (intent : Intent ℕ) (c : PendingCall ℕ) (hold : Option HoldKind) (call : Call ℕ) (memory : Word → ℕ) (t rest : MarkedHolds) → IsWriterIntent c.call hold intent → IsMarkedOrHeld (memory Word.State) (both_marked t rest) →
+abbrev Goes : Type 0
+Goes =
+    (intent : Intent ℕ) (c : PendingCall ℕ) (hold : Option HoldKind) (call : Call ℕ) (memory : Word → ℕ) (t rest : MarkedHolds) → IsWriterIntent c.call hold intent → IsMarkedOrHeld (memory Word.State) (both_marked t rest) →
     marked_needed (carried_out intent memory) t → MarkedAfter (carried_out intent memory) call (memory Word.State) t rest
-goes (Intent.Exchange Word.State from to) c hold call memory t rest may is has = exchanges call c.call from to (memory Word.State) t rest may.1 is
-goes intent c hold call memory t rest h1 h2 h3 = grind (arith, nat_tests, eqb-true, eqb-false, exchanges, reads_off, sees_again, writes_off)
 
 -- and grants are counted as they are made
-grants_more : (intent : Intent ℕ) (c : PendingCall ℕ) (hold : Option HoldKind) (call : Call ℕ) (memory : Word → ℕ) (t : MarkedHolds) (act : Act ℕ) (k : Option (PendingCall ℕ)) → IsWriterIntent c.call hold intent → act ≡ carried_out intent memory → k ≡ Some c →
+abbrev GrantsMore : Type 0
+GrantsMore =
+    (intent : Intent ℕ) (c : PendingCall ℕ) (hold : Option HoldKind) (call : Call ℕ) (memory : Word → ℕ) (t : MarkedHolds) (act : Act ℕ) (k : Option (PendingCall ℕ)) → IsWriterIntent c.call hold intent → act ≡ carried_out intent memory → k ≡ Some c →
     ((marked_after act call t).read_grants ≡ grants_by rw_writer_table HoldKind.Read act k + t.read_grants) × ((marked_after act call t).write_grants ≡ grants_by rw_writer_table HoldKind.Write act k + t.write_grants)
-grants_more intent c hold call memory t act k h1 h2 h3 = grind (arith, nat_tests, eqb-true, eqb-false)
 
-pub marks_go_on : GoesOnByActs rw_writer_model both_marked AreMarkedIn (λ _ _. marked_after) marked_needed
-marks_go_on call place hold past e found step t rest has is =
+goes_on_by : Goes → GrantsMore → GoesOnByActs rw_writer_model both_marked AreMarkedIn (λ _ _. marked_after) marked_needed
+goes_on_by goes grants_more call place hold past e found step t rest has is =
     let act = step.act ∙ step.found_is in
     let intent : Intent ℕ = rw_writer_table.intent place hold in
     let memory = word_in rw_writer_table past in
@@ -174,3 +163,30 @@ marks_go_on call place hold past e found step t rest has is =
       reads = next_grants rw_writer_table HoldKind.Read past e t.read_grants (marked_after e.act call t).read_grants rest.read_grants more.0 is.reads;
       writes = next_grants rw_writer_table HoldKind.Write past e t.write_grants (marked_after e.act call t).write_grants rest.write_grants more.1 is.writes;
     }
+
+pub marks_go_on : GoesOnByActs rw_writer_model both_marked AreMarkedIn (λ _ _. marked_after) marked_needed
+marks_go_on = goes_on_by goes grants_more
+  where
+    sees_again : (w : ℕ) (t rest : MarkedHolds) → IsMarkedOrHeld w (both_marked t rest) → IsMarkedOrHeld w (both_marked (lowered w t) rest)
+    sees_again w t rest h1 = grind (arith, nat_tests, eqb-true, eqb-false)
+
+    reads_off : (w : ℕ) (t rest : MarkedHolds) → IsMarkedOrHeld w (both_marked t rest) → 0 < read_holds t.held → IsMarkedOrHeld ((w + (2 ^ 64 - 2)) % 2 ^ 64) (both_marked (no_more_read t) rest)
+    reads_off w t rest h1 h2 = grind (arith, nat_tests, eqb-true, eqb-false)
+
+    writes_off : (w : ℕ) (t rest : MarkedHolds) → IsMarkedOrHeld w (both_marked t rest) → write_holds t.held ≡ 1 → IsMarkedOrHeld 0 (both_marked (no_more_written t) rest)
+    writes_off w t rest h1 h2 = grind (arith, nat_tests, eqb-true, eqb-false)
+
+    exchanges : (call by : Call ℕ) (from to w : ℕ) (t rest : MarkedHolds) (done : Bool) → (w == from) ≡ done → IsExchange by from to → IsMarkedOrHeld w (both_marked t rest) → MarkedAfter (Act.Exchange Word.State from to w done) call w t rest
+    exchanges call by from to w t rest false h1 h2 h3 = grind (arith, nat_tests, eqb-true, eqb-false)
+    exchanges call by from to w t rest true h1 (inl h2) h3 = grind (arith, nat_tests, eqb-true, eqb-false)
+    exchanges call by from to w t rest true h1 (inr (inl h2)) h3 = grind (arith, nat_tests, eqb-true, eqb-false)
+    exchanges call by from to w t rest true h1 (inr (inr (inl h2))) h3 = record { mark = 1; word_is = grind (arith, nat_tests, eqb-true, eqb-false); one_mark = grind (arith, nat_tests, eqb-true, eqb-false); flagged = grind (arith, nat_tests, eqb-true, eqb-false); room = grind (arith, nat_tests, eqb-true, eqb-false); knows = grind (arith, nat_tests, eqb-true, eqb-false) }
+    exchanges call by from to w t rest true h1 (inr (inr (inr h2))) h3 = record { mark = 0; word_is = grind (arith, nat_tests, eqb-true, eqb-false); one_mark = grind (arith, nat_tests, eqb-true, eqb-false); flagged = grind (arith, nat_tests, eqb-true, eqb-false); room = grind (arith, nat_tests, eqb-true, eqb-false); knows = grind (arith, nat_tests, eqb-true, eqb-false) }
+
+    goes : Goes
+    goes (Intent.Exchange Word.State from to) c hold call memory t rest may is has = exchanges call c.call from to (memory Word.State) t rest (memory Word.State == from) refl may.1 is
+    goes (Intent.Load Word.State) c hold Call.WriteLock memory t rest may is has = sees_again (memory Word.State) t rest is
+    goes intent c hold call memory t rest h1 h2 h3 = grind (arith, nat_tests, eqb-true, eqb-false, reads_off, writes_off)
+
+    grants_more : GrantsMore
+    grants_more intent c hold call memory t act k h1 h2 h3 = grind (arith, nat_tests, eqb-true, eqb-false)
