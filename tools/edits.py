@@ -31,6 +31,9 @@ DEPENDS = re.compile(r"declarations? that depends? on `")
 # What says nothing of a contract: a proof misses a name that the edit took away. The kit's gate takes an edit for refused that has no other reason;
 # here it fails.
 NAME_GONE = re.compile(r"has no field|has no `|is not in scope|: module `[^`]*`$")
+# What the kit's gate takes for a text that cannot be read: an error in what the edit was put into that tells no declaration, as of those that stand on
+# one that no longer holds. In `specs` only what nothing there stands on may be refused.
+UNREAD = re.compile(r"(?m)^(?:\./)?(?:src|specs)/\S+:\d+:\d+: error: (?!`)(.*)")
 # What says less than a search that tried every way. So the edit has a control beside it, a harmless change at the same place (NAME.control.md), that
 # has to be proved: then the search gives up on the wrong body, and not on any that is changed there. One without shows nothing.
 GAVE_UP = re.compile(r"gave up at one of its limits|went on past its bounds|stopped at its own limit")
@@ -308,6 +311,8 @@ def reasons_of(said):
 
 def judged(edit, status, is_verdict, reasons, said):
     """What an edit came to, and why."""
+    if is_verdict and (unread := UNREAD.search(said)):
+        return "BAD", f"rt ci does not take it for one that can be read: {unread[1]}"
     if is_verdict:
         for it in sorted(telling(reasons, edit.brought), key=lambda it: bool(GAVE_UP.search(it))):
             return AT_A_LIMIT if GAVE_UP.search(it) else "refused", it

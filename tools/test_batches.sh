@@ -1,9 +1,10 @@
 # The tool that proves and tries edits, on a crate of three functions and one test: what is no bug, what cannot be read, and what is refused for a name
 # alone, fails it and says so, beside wrong bodies in the same check; so do a test that fails and a crate that is not proved. Of three edits on which a
 # search gave up, over a checker that only pretends, two fail: one has no control, and that of the other is refused like it. Each check there begins with
-# what was proved, and with nothing that the one before it left. An edit that the law refuses is not tried again, and one that it does not is. A
-# closure's open goal is held against the function in whose body it stands, and not against one of its own name. What was proved is kept from call to
-# call, and does not serve another text. Where next to nothing of the disk is free, and something is to be proved, nothing begins.
+# what was proved, and with nothing that the one before it left. An edit that the law refuses is not tried again, and one that it does not is. One that
+# takes from a proof of `specs` what it stands on is bad. A closure's open goal is held against the function in whose body it stands, and not against one
+# of its own name. What was proved is kept from call to call, and does not serve another text. Where next to nothing of the disk is free, and something
+# is to be proved, nothing begins.
 test_batches() {
     local top=$room/batches crate=$room/batches/crates/sizes
     mkdir -p -- "$top/tools" "$crate/src" "$crate/proofs/no" "$crate/must-fail"
@@ -139,8 +140,10 @@ tries = edits.Batches(f"{sys.argv[1]}/crates/sizes", ["no_is_proved_otherwise.ed
 print(tries.is_refused_by_law(edit, 0, "fn sizes::at_every_prefix: proved"), *(it.name for it in tries.next()))
 said = "./proofs/Laws.antt:1:1: error: `step_law`: these differ\nfn sizes::at_every_prefix: not proved"
 print(tries.is_refused_by_law(edit, 1, said), *tries.next(), *tries.told.items())
+said = "./specs/Law.antt:2:1: error: 1 declaration that depends on `step`, which was rejected, was not checked: law\nlogic=not-proved"
+print(edits.judged(edit, 1, True, edits.reasons_of(said), said)[0])
 PY
-    if [[ $(<"$room/out") == $'False no_is_proved_otherwise.edit\nTrue '"('no_is_proved_otherwise.edit', ('refused', '\`step_law\`: these differ'))" ]]; then
+    if [[ $(<"$room/out") == $'False no_is_proved_otherwise.edit\nTrue '"('no_is_proved_otherwise.edit', ('refused', '\`step_law\`: these differ'))"$'\nBAD' ]]; then
         succeed
     else
         fail "an edit that the law refuses" "it said: $(<"$room/out") $(tail -n 3 -- "$room/err")"
