@@ -209,7 +209,7 @@ class Batches:
     def __init__(self, crate, names):
         self.crate = crate
         self.told, self.left, self.apart, self.most = {}, [], [], len(names)
-        # What refused each edit; and by the name of a control the edit that waits for it, with what was told of that.
+        # What refused each edit; and by the name of a control the edits that wait for it, or have one just like it, with what was told of each.
         self.refusals, self.waiting = {}, {}
         for name in names:
             try:
@@ -276,10 +276,10 @@ class Batches:
 
     def tell(self, edit, what, refused_by=""):
         """Takes what an edit or a control came to. An edit of which it is told only that a search gave up waits for its control."""
-        if edit.name in self.waiting:
-            name, why = self.waiting.pop(edit.name)
+        for name, why in self.waiting.get(edit.name, ()):
             told = {it: (it, f"its control: {what[1]}") for it in ("BAD", "NOT TRIED")} | {"NOT REFUSED": ("refused", "and its control is proved")}
             self.told[name] = told.get(what[0], ("SHOWS NOTHING", f"{why}; and its control is refused too"))
+        if self.waiting.pop(edit.name, ()):
             return
         self.refusals[edit.name] = refused_by
         control = edit.name.removesuffix(".edit") + ".control.md"
@@ -287,8 +287,11 @@ class Batches:
             self.told[edit.name] = what
             return
         try:
-            self.add(Edit(self.crate, control))
-            self.waiting[control] = edit.name, what[1]
+            own = Edit(self.crate, control)
+            same = next((it for it in self.left + self.apart if it.name in self.waiting and it.hunks == own.hunks), own)
+            if same is own:
+                self.add(own)
+            self.waiting.setdefault(same.name, []).append((edit.name, what[1]))
         except BadEdit as why:
             self.told[edit.name] = "BAD", f"its control: {why}"
 

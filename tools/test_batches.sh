@@ -1,6 +1,6 @@
 # The tool that proves and tries edits, on a crate of three functions and one test: what is no bug, what cannot be read, and what is refused for a name
-# alone, fails it and says so, beside wrong bodies in the same check; so do a test that fails and a crate that is not proved. Of three edits on which a
-# search gave up, over a checker that only pretends, two fail: one has no control, and that of the other is refused like it. Each check there begins with
+# alone, fails it and says so, beside wrong bodies in the same check; so do a test that fails and a crate that is not proved. Of four edits on which a
+# search gave up, over a checker that only pretends, two fail: one has no control, and that of another is refused like it; two have one control, tried once. Each check there begins with
 # what was proved, and with nothing that the one before it left. An edit that the law refuses is not tried again, and one that it does not is. One that
 # takes from a proof of `specs` what it stands on is bad. A closure's open goal is held against the function in whose body it stands, and not against one
 # of its own name. What was proved is kept from call to call, and does not serve another text. Where next to nothing of the disk is free, and something
@@ -70,6 +70,8 @@ ANTT
         "2 of its 8 edits are refused" "another_way.edit: NOT REFUSED" "another_way_with_answers.edit: NOT REFUSED" "another_way_below.edit: NOT REFUSED" "says_so_by_a_name.edit: SHOWS NOTHING" "cannot_be_read.edit: BAD" \
         "stands_nowhere.edit: BAD"
     printf '%s\n' "file: src/lib.rt" "old:     true" "new:     { let is = true; is }" >"$crate/must-fail/yes_is_no.control.md"
+    plant yes_is_not "    true" "    !true"
+    cp -- "$crate/must-fail/yes_is_no.control.md" "$crate/must-fail/yes_is_not.control.md"
     printf '%s\n' "file: src/lib.rt" "old:     again" "new:     3" >"$crate/must-fail/same_is_three.edit"
     printf '%s\n' "file: src/lib.rt" "old:     again" "new:     given + 0" >"$crate/must-fail/same_is_three.control.md"
     attempt python3 - "$top" <<'PY'
@@ -92,20 +94,20 @@ class Lane:
         self.left |= {*os.listdir(at)}
         open(f"{at}/what_an_edit_leaves_behind", "w").close()
         text = edits.text_of(f"{crate.folder}/src/lib.rt")
-        wrong = [name for name, body in (("yes", "    false\n"), ("no", "    yes()\n"), ("same", "    3\n"), ("same", "    given + 0\n")) if body in text]
+        wrong = [name for name, body in (("yes", "    false\n"), ("yes", "    !true\n"), ("no", "    yes()\n"), ("same", "    3\n"), ("same", "    given + 0\n")) if body in text]
         said = [f"note: src/lib.rt:1:1: it is not proved that it says so; `search` gave up at one of its limits\nfn sizes::{it}: no proof: expected answers" for it in wrong]
         said += [f"fn sizes::{it}: proved" for it in ("yes", "no", "same") if it not in wrong]
         return (1, "\n".join([*said, "logic=not-proved"])) if wrong else (0, "logic=proved")
 
 
 crate = prove.Crate(sys.argv[1], "sizes", [])
-crate.edits = ["no_is_yes.edit", "same_is_three.edit", "yes_is_no.edit"]
+crate.edits = ["no_is_yes.edit", "same_is_three.edit", "yes_is_no.edit", "yes_is_not.edit"]
 for it in ("kept/sizes", "made"):
     os.makedirs(f"{Lane.folder}/{it}/incremental")
 told = prove.Tries(1e12)(Lane(), crate, 1)
 print(told.line, told.why, *Lane.left)
 PY
-    if [[ $(<"$room/out") == "1 of its 3 edits are refused, in "*"no_is_yes.edit: SHOWS NOTHING without a control: "*"same_is_three.edit: SHOWS NOTHING: "*"its control is refused too" ]]; then
+    if [[ $(<"$room/out") == "2 of its 4 edits are refused, in 3 checks"*"no_is_yes.edit: SHOWS NOTHING without a control: "*"same_is_three.edit: SHOWS NOTHING: "*"its control is refused too" ]]; then
         succeed
     else
         fail "an edit at a limit" "it said: $(<"$room/out") $(tail -n 3 -- "$room/err")"
