@@ -19,7 +19,7 @@ ASKED_BY_NONE = "asked_by_none"
 ANSWER = f"pub {ASKED_BY_NONE} : goal.{ASKED_BY_NONE}\n{ASKED_BY_NONE} = ?\n"
 # A goal that a check leaves open: the path of the proof file that it stands in, and what is said of it.
 GOAL = re.compile(r"^(?:note: )?\./(?:proofs/(\S*\w)/(?:Answers|Invariants|Proof)\.antt|\S+):\d+:\d+: error(?:\[[\w-]+\])?: (.*)")
-# One that has no answer, and was searched for in vain; it is told before the line of its function. Of several at once it is told that no proof was found.
+# One that has no answer, and was searched for in vain; it is told before the line of its function. Of all of an invariant at once less is told.
 UNANSWERED = re.compile(r"^note: \S+:\d+:\d+: (?:(it is not proved that .*)|`search` found no proof .*)")
 FUNCTION = re.compile(r"^fn (\S*\w): (.*)")
 # A closure's path has the function in whose body it stands, and last what it is named by, as the function that it is handed to.
@@ -156,11 +156,12 @@ def open_goals(said):
         if goal and goal[1] and not DEPENDS.search(line):
             found.setdefault(owner(goal[1]), []).append(goal[2])
         elif note:
-            unanswered.append(note[1] or "no proof was found")
+            unanswered.append(note[1])
         elif function:
-            if function[2].startswith("no proof: expected answers") and not unanswered:
-                unanswered.append("no proof was found")
-            found.setdefault(owner(function[1]), []).extend(unanswered)
+            told = [it for it in unanswered if it]
+            if not told and (unanswered or function[2].startswith("no proof: expected answers")):
+                told = ["no proof was found"]
+            found.setdefault(owner(function[1]), []).extend(told)
             unanswered = []
     return {name: reasons for name, reasons in found.items() if reasons}
 
