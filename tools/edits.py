@@ -240,6 +240,11 @@ class Batches:
             self.tell(edit, what, refusal(open_clauses(said)) or by_lemmas(said))
         return what[0] == "refused"
 
+    def control_of(self, edit):
+        """The name of an edit's control, where it has one."""
+        name = edit.name.removesuffix(".edit") + ".control.md"
+        return name if os.path.exists(f"{self.crate}/must-fail/{name}") else None
+
     def asked(self, batch):
         """Those of a batch that are judged by the goals of their own functions."""
         return [it for it in batch if it not in self.apart and it.name not in self.waiting]
@@ -250,17 +255,22 @@ class Batches:
         is_verdict = status == 1 and "logic=not-proved" in said
         goals = open_goals(said) if is_verdict else {}
         clauses = open_clauses(said) if is_verdict else {}
-        if len(batch) == 1 and (batch[0] in self.apart or not is_verdict or reasons_of(said)):
+        if len(batch) == 1 and (batch[0] in self.apart or not is_verdict):
             # all that is open is due to it
             self.left, self.apart = ([it for it in own if it is not batch[0]] for own in (self.left, self.apart))
             self.tell(batch[0], judged(batch[0], status, is_verdict, reasons_of(said), said), refusal(clauses) or by_lemmas(said))
             return
         told = []
         for edit in batch:
-            reasons = [it for name in edit.functions for it in goals.get(name, [])]
+            own = sorted(clauses if len(batch) == 1 else edit.functions & clauses.keys())
+            reasons = reasons_of(said) if len(batch) == 1 else [it for name in edit.functions for it in goals.get(name, [])]
             if reasons:
-                refused_by = {name: clauses[name] for name in sorted(edit.functions & clauses.keys())}
-                self.tell(edit, judged(edit, status, True, reasons, said), refusal(refused_by))
+                what = judged(edit, status, True, reasons, said)
+                if edit.name in self.waiting or what[0] == "refused" or what[0] == AT_A_LIMIT and self.control_of(edit):
+                    self.tell(edit, what, refusal({name: clauses[name] for name in own}) or by_lemmas(said))
+                else:
+                    # once more, with nothing in its answers
+                    self.apart.append(edit)
             elif status == 0 or is_verdict and edit.name in self.waiting and edit.functions <= proved_in(said):
                 self.tell(edit, judged(edit, 0, False, [], said))
             else:
@@ -283,8 +293,8 @@ class Batches:
         if self.waiting.pop(edit.name, ()):
             return
         self.refusals[edit.name] = refused_by
-        control = edit.name.removesuffix(".edit") + ".control.md"
-        if what[0] != AT_A_LIMIT or not os.path.exists(f"{self.crate}/must-fail/{control}"):
+        control = self.control_of(edit)
+        if what[0] != AT_A_LIMIT or not control:
             self.told[edit.name] = what
             return
         try:
