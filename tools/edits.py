@@ -255,21 +255,21 @@ class Batches:
         is_verdict = status == 1 and "logic=not-proved" in said
         goals = open_goals(said) if is_verdict else {}
         clauses = open_clauses(said) if is_verdict else {}
-        if len(batch) == 1 and (batch[0] in self.apart or not is_verdict):
+        if batch[0] in self.apart:
             # all that is open is due to it
-            self.left, self.apart = ([it for it in own if it is not batch[0]] for own in (self.left, self.apart))
+            self.apart = [it for it in self.apart if it is not batch[0]]
             self.tell(batch[0], judged(batch[0], status, is_verdict, reasons_of(said), said), refusal(clauses) or by_lemmas(said))
             return
         told = []
         for edit in batch:
             own = sorted(clauses if len(batch) == 1 else edit.functions & clauses.keys())
-            reasons = reasons_of(said) if len(batch) == 1 else [it for name in edit.functions for it in goals.get(name, [])]
+            reasons = reasons_of(said) if is_verdict and len(batch) == 1 else [it for name in edit.functions for it in goals.get(name, [])]
             if reasons:
                 what = judged(edit, status, True, reasons, said)
                 if edit.name in self.waiting or what[0] == "refused" or what[0] == AT_A_LIMIT and self.control_of(edit):
                     self.tell(edit, what, refusal({name: clauses[name] for name in own}) or by_lemmas(said))
                 else:
-                    # once more, with nothing in its answers
+                    # once more, as it is
                     self.apart.append(edit)
             elif status == 0 or is_verdict and edit.name in self.waiting and edit.functions <= proved_in(said):
                 self.tell(edit, judged(edit, 0, False, [], said))
@@ -277,11 +277,11 @@ class Batches:
                 continue
             told.append(edit)
         self.left = [it for it in self.left if it not in told]
-        if not told and not is_verdict:
+        if not told and not is_verdict and len(batch) > 1:
             # one of them kept the check from its end: in halves
             self.most = len(batch) // 2
         elif not told:
-            # nothing was told apart
+            # nothing was told
             self.left = [it for it in self.left if it not in batch]
             self.apart += batch
 
