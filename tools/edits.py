@@ -13,8 +13,8 @@ HEAD = re.compile(r"^(\s*)(?:pub(?:\([^)]*\))?\s+)?(?:const\s+|unsafe\s+)*fn (\w
 IMPL = re.compile(r"\s*impl\b(?:<.*?>)?\s+(?:.*\sfor\s+)?&?(\w+)")
 # The path of a function whose proof is kept.
 KEPT = re.compile(r"/Rattle-\w+-proofs\.(.+)\.Tie\.oantt$")
-# What each function that edits of a batch change has last among its answers: one to no goal of it. A search is made for the others all the same; but of
-# a function that lacks answers, and has no wrong one, rt has antt print all that it could be answered, which takes up to half of the check.
+# In a batch each changed function whose path is known gets this answer, to a goal that it does not have. Its own goals are searched all the same. Where
+# answers are only lacking, rt would print all that it could offer, which takes up to half of the check.
 ASKED_BY_NONE = "asked_by_none"
 ANSWER = f"pub {ASKED_BY_NONE} : goal.{ASKED_BY_NONE}\n{ASKED_BY_NONE} = ?\n"
 # A goal that a check leaves open: the path of the proof file that it stands in, and what is said of it.
@@ -31,9 +31,10 @@ DEPENDS = re.compile(r"declarations? that depends? on `")
 # What says nothing of a contract: a proof misses a name that the edit took away. The kit's gate takes an edit for refused that has no other reason;
 # here it fails.
 NAME_GONE = re.compile(r"has no field|has no `|is not in scope|: module `[^`]*`$")
-# What the kit's gate takes for a text that cannot be read: an error in what the edit was put into that tells no declaration, as of those that stand on
-# one that no longer holds. In `specs` only what nothing there stands on may be refused.
-UNREAD = re.compile(r"(?m)^(?:\./)?(?:src|specs)/\S+:\d+:\d+: error: (?!`)(.*)")
+# An error, and what the kit's gate takes in the code, in `specs` and in edited files for a text that cannot be read: one of no declaration, as of those
+# that stand on one that no longer holds, or of a name. So in `specs` only what nothing there stands on may be refused.
+ERROR = re.compile(r"(?m)^(?:\./)?(\S+?):\d+:\d+: error: (?:(`[^`]*`): )?(.*)")
+UNREAD = re.compile(r"is not in scope|has no field|is no name|operand is missing|expected the end|cannot continue")
 # What says less than a search that tried every way. So the edit has a control beside it, a harmless change at the same place (NAME.control.md), that
 # has to be proved: then the search gives up on the wrong body, and not on any that is changed there. One without shows nothing.
 GAVE_UP = re.compile(r"gave up at one of its limits|went on past its bounds|stopped at its own limit")
@@ -128,8 +129,8 @@ def with_edits(crate, edits):
 
 
 def with_answers(crate, edits, kept):
-    """The files of answers of the functions that these edits change, with one more that no goal asks for, and the files as they were, where they are
-    there. Of what is kept the names tell the functions' paths. One of several of its name, in types of one name, has none."""
+    """The files of answers of the functions that these edits change, with one more that no goal asks for, and the files as they were, or None. The names
+    of what is kept tell the functions' paths. A function has none where another has its name, and its type does not tell them apart."""
     new, old = {}, {}
     paths = [it[1].split(".") for name in kept if (it := KEPT.search(name))]
     for function, of in {pair for edit in edits for pair in edit.impls.items()}:
@@ -210,7 +211,7 @@ class Batches:
     def __init__(self, crate, names):
         self.crate = crate
         self.told, self.left, self.apart, self.most = {}, [], [], len(names)
-        # What refused each edit; and by the name of a control the edits that wait for it, or have one just like it, with what was told of each.
+        # What refused each edit; and by a control's name the edits that it serves, with what was told of each.
         self.refusals, self.waiting = {}, {}
         for name in names:
             try:
@@ -246,7 +247,7 @@ class Batches:
         return name if os.path.exists(f"{self.crate}/must-fail/{name}") else None
 
     def asked(self, batch):
-        """Those of a batch that are judged by the goals of their own functions."""
+        """Those of a batch that get the answer that no goal asks for: no control, and none that is tried as it is."""
         return [it for it in batch if it not in self.apart and it.name not in self.waiting]
 
     def judge(self, batch, status, said):
@@ -266,12 +267,12 @@ class Batches:
             reasons = reasons_of(said) if is_verdict and len(batch) == 1 else [it for name in edit.functions for it in goals.get(name, [])]
             if reasons:
                 what = judged(edit, status, True, reasons, said)
-                if edit.name in self.waiting or what[0] == "refused" or what[0] == AT_A_LIMIT and self.control_of(edit):
+                if what[0] == "refused" or what[0] == AT_A_LIMIT and self.control_of(edit) or what[0] != "BAD" and edit.name in self.waiting:
                     self.tell(edit, what, refusal({name: clauses[name] for name in own}) or by_lemmas(said))
                 else:
                     # once more, as it is
                     self.apart.append(edit)
-            elif status == 0 or is_verdict and edit.name in self.waiting and edit.functions <= proved_in(said):
+            elif status == 0 or is_verdict and len(batch) > 1 and edit.name in self.waiting and edit.functions <= proved_in(said):
                 self.tell(edit, judged(edit, 0, False, [], said))
             else:
                 continue
@@ -303,7 +304,7 @@ class Batches:
             if same is own:
                 self.add(own)
             self.waiting.setdefault(same.name, []).append((edit.name, what[1]))
-        except BadEdit as why:
+        except (BadEdit, OSError) as why:
             self.told[edit.name] = "BAD", f"its control: {why}"
 
 
@@ -325,8 +326,9 @@ def reasons_of(said):
 
 def judged(edit, status, is_verdict, reasons, said):
     """What an edit came to, and why."""
-    if is_verdict and (unread := UNREAD.search(said)):
-        return "BAD", f"rt ci does not take it for one that can be read: {unread[1]}"
+    for path, name, what in ERROR.findall(said) if is_verdict else []:
+        if (path in edit.hunks or path.startswith(("src/", "specs/"))) and (not name or UNREAD.search(re.sub("`[^`]*`", "", what))):
+            return "BAD", f"rt ci does not take it for one that can be read: {what}"
     if is_verdict:
         for it in sorted(telling(reasons, edit.brought), key=lambda it: bool(GAVE_UP.search(it))):
             return AT_A_LIMIT if GAVE_UP.search(it) else "refused", it

@@ -17,6 +17,7 @@ cost, and how many passed and failed, which goes to the file too.
 """
 import argparse
 import concurrent.futures
+import contextlib
 import fcntl
 import glob
 import json
@@ -364,7 +365,10 @@ class Tries:
             new, old = (a | b for a, b in zip(edits.with_edits(folder, changed), edits.with_answers(folder, batches.asked(changed), kept)))
             try:
                 put(folder, new)
-                return lane.run(crate, ["rt", "check", "--jobs", str(jobs), *words])
+                status, said = lane.run(crate, ["rt", "check", "--jobs", str(jobs), *words])
+                # What a file is told that is there for this check alone says nothing of an edit.
+                made = tuple(f"{note}./{path}:" for path, text in old.items() if text is None for note in ("", "note: "))
+                return status, "\n".join(it for it in said.split("\n") if not it.startswith(made))
             finally:
                 put(folder, old)
                 lane.shelf.renew(lane, crate)
@@ -385,7 +389,8 @@ def put(folder, texts):
     """Writes these files of a folder, and takes away those that have no text."""
     for path, text in texts.items():
         if text is None:
-            os.remove(f"{folder}/{path}")
+            with contextlib.suppress(FileNotFoundError):
+                os.remove(f"{folder}/{path}")
             continue
         os.makedirs(os.path.dirname(f"{folder}/{path}"), exist_ok=True)
         with open(f"{folder}/{path}", "w", encoding="utf-8") as it:

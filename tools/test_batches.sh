@@ -1,10 +1,10 @@
-# The tool that proves and tries edits, on a crate of three functions and one test: what is no bug, what cannot be read, and what is refused for a name
-# alone, fails it and says so, beside wrong bodies in the same check; so do a test that fails and a crate that is not proved. Of four edits on which a
-# search gave up, over a checker that only pretends, two fail: one has no control, and that of another is refused like it; two have one control, tried once. Each check there begins with
-# what was proved, and with nothing that the one before it left. An edit that the law refuses is not tried again, and one that it does not is. One that
-# takes from a proof of `specs` what it stands on is bad. A closure's open goal is held against the function in whose body it stands, and not against one
-# of its own name. What was proved is kept from call to call, and does not serve another text. Where next to nothing of the disk is free, and something
-# is to be proved, nothing begins.
+# The tool that proves and tries edits, on a crate of three functions and one test: what is no bug, what cannot be read, and what is refused for a
+# name alone, fails it and says so, beside wrong bodies in the same check; so do a test that fails and a crate that is not proved. Of four edits on
+# which a search gave up, over a checker that only pretends, two fail: one has no control, and that of another is refused like it; two have one
+# control, tried once. Each check there begins with what was proved, and with nothing that the one before it left. An edit that the law refuses is not
+# tried again, and one that it does not is. One that takes from a proof of `specs` what it stands on is bad. A closure's open goal is held against the
+# function in whose body it stands, and not against one of its own name. What was proved is kept from call to call, and does not serve another text.
+# Where next to nothing of the disk is free, and something is to be proved, nothing begins.
 test_batches() {
     local top=$room/batches crate=$room/batches/crates/sizes
     mkdir -p -- "$top/tools" "$crate/src" "$crate/proofs/no" "$crate/must-fail"
@@ -66,8 +66,8 @@ ANTT
     plant cannot_be_read "    !yes()" "    !yes("
     plant stands_nowhere "    maybe()" "    yes()"
     tries "edits of which two are wrong bodies" "edits tests" "4 passed, 5 failed" \
-        "2 of its 7 edits are refused" "another_way.edit: NOT REFUSED" "another_way_with_answers.edit: NOT REFUSED" "says_so_by_a_name.edit: SHOWS NOTHING" "cannot_be_read.edit: BAD" \
-        "stands_nowhere.edit: BAD"
+        "2 of its 7 edits are refused" "another_way.edit: NOT REFUSED" "another_way_with_answers.edit: NOT REFUSED" \
+        "says_so_by_a_name.edit: SHOWS NOTHING" "cannot_be_read.edit: BAD" "stands_nowhere.edit: BAD"
     printf '%s\n' "file: src/lib.rt" "old:     true" "new:     { let is = true; is }" >"$crate/must-fail/yes_is_no.control.md"
     plant yes_is_not "    true" "    !true"
     cp -- "$crate/must-fail/yes_is_no.control.md" "$crate/must-fail/yes_is_not.control.md"
