@@ -366,7 +366,7 @@ class Tries:
             try:
                 put(folder, new)
                 status, said = lane.run(crate, ["rt", "check", "--jobs", str(jobs), *words])
-                # What a file is told that is there for this check alone says nothing of an edit.
+                # What is said of a file that is made for this check alone says nothing of an edit.
                 made = tuple(f"{note}./{path}:" for path, text in old.items() if text is None for note in ("", "note: "))
                 return status, "\n".join(it for it in said.split("\n") if not it.startswith(made))
             finally:
