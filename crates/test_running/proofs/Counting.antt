@@ -1,7 +1,7 @@
 -- Each step of the tests' counter keeps its rule.
-use Rattle.test_passes.specs.Names.{View, looked, wrote, Updates}
-use Rattle.test_passes.proofs.Names.{◌≡◌, ℕ, ◌+◌, ◌-◌, ◌%◌, ◌^◌, ◌<◌, ◌≤◌, List, get_or, set, refl, ap, ◌∙◌, arith, length-set, get_or-set_same, sym, subst}
-use Rattle.test_passes.specs.Counting.{IsCount, CounterAgrees, Looked, AddedTo, TookFrom}
+use Rattle.test_running.specs.Names.{View, looked, wrote, Updates}
+use Rattle.test_running.proofs.Names.{◌≡◌, ℕ, ◌+◌, ◌-◌, ◌%◌, ◌^◌, ◌<◌, ◌≤◌, List, get_or, set, refl, ap, ◌∙◌, arith, length-set, get_or-set_same, sym, subst}
+use Rattle.test_running.specs.Counting.{IsCount, CounterAgrees, Looked, AddedTo, TookFrom}
 use lib.Seq.{set-get_or}
 
 count_again : (words : List ℕ) (n t u : ℕ) → IsCount words t → n ≡ u % 2 ^ 64 → IsCount (set words 0 n) u

@@ -1,8 +1,8 @@
-use Rattle.test_passes.specs.Names.{Word, Call, Intent}
-use Rattle.test_passes.proofs.Names.{refl, is_over}
-use Rattle.test_passes.specs.Staging.{counter_model}
-use Rattle.test_passes.proofs.Staging.{begins, may}
-use Rattle.test_passes.proofs.tests.staging.turn_to_subtract.Goals as goal
+use Rattle.test_running.specs.Names.{Word, Call, Intent}
+use Rattle.test_running.proofs.Names.{refl, is_over}
+use Rattle.test_running.specs.Staging.{counter_model}
+use Rattle.test_running.proofs.Staging.{begins, may}
+use Rattle.test_running.proofs.tests.staging.turn_to_subtract.Goals as goal
 
 pub subtract-found-requires-clause-may : goal.subtract-found-requires-clause-may
 subtract-found-requires-clause-may c = may Call.TryWait _ _ refl refl tt refl

@@ -1,8 +1,8 @@
-use Rattle.test_passes.specs.Names.{Word, Call, Intent, Answer, HasCalled, parties_of}
-use Rattle.test_passes.proofs.Names.{refl, sym, subst, ◌∙◌, None, is_over}
-use Rattle.test_passes.specs.Staging.{counter_model}
-use Rattle.test_passes.proofs.Staging.{begins, may}
-use Rattle.test_passes.proofs.tests.staging.turn_to_load.Goals as goal
+use Rattle.test_running.specs.Names.{Word, Call, Intent, Answer, HasCalled, parties_of}
+use Rattle.test_running.proofs.Names.{refl, sym, subst, ◌∙◌, None, is_over}
+use Rattle.test_running.specs.Staging.{counter_model}
+use Rattle.test_running.proofs.Staging.{begins, may}
+use Rattle.test_running.proofs.tests.staging.turn_to_load.Goals as goal
 
 pub load-found-requires-clause-may : goal.load-found-requires-clause-may
 load-found-requires-clause-may c = may Call.Value _ _ refl refl tt refl

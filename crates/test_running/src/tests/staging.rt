@@ -7,8 +7,8 @@ ghost use Rattle.running_passes.specs.Passes.{IsSamePass};
 ghost use Rattle.running_model.specs.Passes.{parties_of};
 ghost use Rattle.running_model.specs.Stages.{IsPassOf, count_of};
 ghost use Rattle.running_model.specs.Plays.{HasCalled};
-ghost use Rattle.test_passes.specs.Ending.{ending_model};
-ghost use Rattle.test_passes.specs.Staging.{counter_model};
+ghost use Rattle.test_running.specs.Ending.{ending_model};
+ghost use Rattle.test_running.specs.Staging.{counter_model};
 
 use model_events::row::Intent;
 use running_model::turn::{Called, begin_new};
@@ -23,7 +23,7 @@ struct CounterScript;
 impl Script<(), Intent<u64>, u64> for CounterScript {
     ghost use Rattle.std.specs.Prelude.{[], ◌∷◌};
     ghost use Rattle.model_events.specs.declared.event.Word.TheVariants as words;
-    ghost use Rattle.test_passes.specs.Staging.{counter_model};
+    ghost use Rattle.test_running.specs.Staging.{counter_model};
 
     ghost model = { λ _. counter_model };
 
@@ -48,7 +48,7 @@ impl Model for Nothing {
 }
 
 impl Tally for Nothing {
-    ghost use Rattle.test_passes.specs.Staging.{nothing_adds_up};
+    ghost use Rattle.test_running.specs.Staging.{nothing_adds_up};
 
     ghost none = { tt };
 
@@ -230,7 +230,7 @@ struct EndingScript;
 impl Script<(), Intent<u64>, u64> for EndingScript {
     ghost use Rattle.std.specs.Prelude.{[], ◌∷◌};
     ghost use Rattle.model_events.specs.declared.event.Word.TheVariants as words;
-    ghost use Rattle.test_passes.specs.Ending.{ending_model};
+    ghost use Rattle.test_running.specs.Ending.{ending_model};
 
     ghost model = { λ _. ending_model };
 

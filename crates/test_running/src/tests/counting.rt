@@ -23,7 +23,7 @@ impl Model for Count {
 
 impl Tally for Count {
     ghost use Rattle.std.specs.Prelude.{◌+◌};
-    ghost use Rattle.test_passes.specs.Counting.{counts_add_up};
+    ghost use Rattle.test_running.specs.Counting.{counts_add_up};
 
     ghost none = { 0 };
 
@@ -35,7 +35,7 @@ impl Tally for Count {
 }
 
 impl Rule<(), ()> for Count {
-    ghost use Rattle.test_passes.specs.Counting.{CounterAgrees};
+    ghost use Rattle.test_running.specs.Counting.{CounterAgrees};
 
     ghost first = { λ _. 0 };
 
@@ -45,7 +45,7 @@ impl Rule<(), ()> for Count {
 struct Look;
 
 impl Deed<(), Count> for Look {
-    ghost use Rattle.test_passes.specs.Counting.{Looked};
+    ghost use Rattle.test_running.specs.Counting.{Looked};
 
     ghost tells = { λ _ _ _. Looked };
 }
@@ -53,7 +53,7 @@ impl Deed<(), Count> for Look {
 struct Add;
 
 impl Deed<(), Count> for Add {
-    ghost use Rattle.test_passes.specs.Counting.{AddedTo};
+    ghost use Rattle.test_running.specs.Counting.{AddedTo};
 
     ghost tells = { λ _ more _ before _. AddedTo more before };
 }
@@ -61,7 +61,7 @@ impl Deed<(), Count> for Add {
 struct Subtract;
 
 impl Deed<(), Count> for Subtract {
-    ghost use Rattle.test_passes.specs.Counting.{TookFrom};
+    ghost use Rattle.test_running.specs.Counting.{TookFrom};
 
     ghost tells = { λ _ less _ before _. TookFrom less before };
 }

@@ -1,8 +1,8 @@
-use Rattle.test_passes.specs.Names.{Word, Call, Answer, Then, Intent, all_of, HasCalled, IsAt, parties_of}
-use Rattle.test_passes.proofs.Names.{None, sym, subst, ◌∙◌, is_over}
-use Rattle.test_passes.specs.Ending.{ending_model}
-use Rattle.test_passes.proofs.Endings.{call_begins, may_look, is_to_end, has_run, may_store}
-use Rattle.test_passes.proofs.tests.staging.run_and_store.Goals as goal
+use Rattle.test_running.specs.Names.{Word, Call, Answer, Then, Intent, all_of, HasCalled, IsAt, parties_of}
+use Rattle.test_running.proofs.Names.{None, sym, subst, ◌∙◌, is_over}
+use Rattle.test_running.specs.Ending.{ending_model}
+use Rattle.test_running.proofs.Endings.{call_begins, may_look, is_to_end, has_run, may_store}
+use Rattle.test_running.proofs.tests.staging.run_and_store.Goals as goal
 
 pub load-looked-requires-clause-may : goal.load-looked-requires-clause-may
 load-looked-requires-clause-may c = may_look _

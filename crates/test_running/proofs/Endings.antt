@@ -1,8 +1,8 @@
 -- The steps of the tests' call that ends a closure are those of its table.
-use Rattle.test_passes.specs.Names.{Word, Call, Then, Intent, Slot, Parties, all_of, Beginning, Aside, ComesBy, IsAt, MayStep}
-use Rattle.test_passes.proofs.Names.{ℕ, refl, List, [], ◌∷◌, None}
+use Rattle.test_running.specs.Names.{Word, Call, Then, Intent, Slot, Parties, all_of, Beginning, Aside, ComesBy, IsAt, MayStep}
+use Rattle.test_running.proofs.Names.{ℕ, refl, List, [], ◌∷◌, None}
 use Rattle.running_model.specs.Tries.{IsToEnd}
-use Rattle.test_passes.specs.Ending.{ending_model}
+use Rattle.test_running.specs.Ending.{ending_model}
 
 pub call_begins : (p : Parties ℕ) → ComesBy ending_model (Beginning Call.CallOnce) Call.CallOnce (Intent.Load Word.State) None (all_of p) p
 call_begins p = (refl, record { may = record { begins = refl; free = refl; values = tt }; new = refl; others = refl })

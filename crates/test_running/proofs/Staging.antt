@@ -1,9 +1,9 @@
 -- The steps of the tests' counter are those of its table.
-use Rattle.test_passes.specs.Names.{Word, Call, Intent, u64_arithmetic, Parties, all_of, Beginning, ComesBy, MayStep}
-use Rattle.test_passes.proofs.Names.{◌≡◌, ℕ, refl, [], ◌∷◌, Some, None}
+use Rattle.test_running.specs.Names.{Word, Call, Intent, u64_arithmetic, Parties, all_of, Beginning, ComesBy, MayStep}
+use Rattle.test_running.proofs.Names.{◌≡◌, ℕ, refl, [], ◌∷◌, Some, None}
 use Rattle.model_events.specs.Moves.{hold_fault, CallValues}
 use Rattle.running_model.specs.Words.{IsStepOn}
-use Rattle.test_passes.specs.Staging.{counter_begins, counter_table, counter_model}
+use Rattle.test_running.specs.Staging.{counter_begins, counter_table, counter_model}
 
 pub begins : (call : Call ℕ) (place : Intent ℕ) (p : Parties ℕ) → counter_begins call ≡ Some place → hold_fault counter_table call None ≡ None → CallValues u64_arithmetic call →
     ComesBy counter_model (Beginning call) call place None (all_of p) p

@@ -1,2 +1,0 @@
-mod counting;
-mod staging;
