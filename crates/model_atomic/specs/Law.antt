@@ -1,5 +1,6 @@
 -- What an atomic keeps at every prefix of every run: one writer or only readers, and it answers as one register.
-use Rattle.model_atomic.specs.Names.{◌≡◌, ◌≢◌, ◌<◌, ℕ, Bool, true, false, not, ◌&&◌, ◌||◌, is_some, List, [], ◌∷◌, Option, Some, None, MatchOption, Word, Call, Act, Then, Event, Arithmetic, HoldKind, PendingCall, call_of, holds_of, hold_of, word_in, acts_in, StepsAs, writes_in, Keeps, CountsHolds}
+use Rattle.std.specs.Prelude.{◌≡◌, ◌≢◌, ◌<◌, ℕ, Bool, true, false, not, ◌&&◌, ◌||◌, is_some, List, [], ◌∷◌, Option, Some, None, MatchOption}
+use Rattle.model_atomic.specs.Names.{Word, Call, Act, Then, Event, Arithmetic, HoldKind, PendingCall, call_of, holds_of, hold_of, word_in, acts_in, StepsAs, writes_in, Keeps, CountsHolds}
 use Rattle.model_atomic.specs.Register.{register_after, answer_of, choice_of, HasChosen, acts_made, is_data_access, is_data_write}
 use Rattle.model_atomic.specs.Table.{atomic_table}
 use Rattle.model_atomic.specs.Steps.{AtomicStep}

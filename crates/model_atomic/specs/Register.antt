@@ -1,5 +1,6 @@
 -- An atomic as one register: a value, and the acts of its calls, in the order of their last data accesses.
-use Rattle.model_atomic.specs.Names.{◌≡◌, is_some, ℕ, Bool, true, false, ◌+◌, ◌==◌, ◌||◌, if◌then◌else◌, not, List, [], ◌∷◌, ◌++◌, Option, Some, None, Word, Call, Act, Answer, Event, Arithmetic, PendingCall, call_of, is_sight, is_write}
+use Rattle.std.specs.Prelude.{◌≡◌, is_some, ℕ, Bool, true, false, ◌+◌, ◌==◌, ◌||◌, if◌then◌else◌, not, List, [], ◌∷◌, ◌++◌, Option, Some, None}
+use Rattle.model_atomic.specs.Names.{Word, Call, Act, Answer, Event, Arithmetic, PendingCall, call_of, is_sight, is_write}
 
 -- what an act answers, and the register's new value
 abbrev pub Outcome : Type 0 → Type 0

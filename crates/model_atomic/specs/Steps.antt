@@ -1,5 +1,6 @@
 -- What a call of an atomic does next, by its own steps so far, and how it is left by what that tells.
-use Rattle.model_atomic.specs.Names.{◌≡◌, ℕ, ◌+◌, ◌-◌, ◌^◌, ◌==◌, Bool, true, false, is_some, unwrap_or, List, [], ◌∷◌, Option, Some, None, MatchBool, MatchOption, Word, Call, Act, Event, Then, HoldKind, Arithmetic, is_step, is_done_exchange, last_of, seen_last, Loads, Exchanges, open_at, may_read, Releases}
+use Rattle.std.specs.Prelude.{◌≡◌, ℕ, ◌+◌, ◌-◌, ◌^◌, ◌==◌, Bool, true, false, is_some, unwrap_or, List, [], ◌∷◌, Option, Some, None, MatchBool, MatchOption}
+use Rattle.model_atomic.specs.Names.{Word, Call, Act, Event, Then, HoldKind, Arithmetic, is_step, is_done_exchange, last_of, seen_last, Loads, Exchanges, open_at, may_read, Releases}
 use Rattle.model_atomic.specs.Register.{Outcome, act_of, choice_of, low_told, acts_made}
 
 abbrev pub goes_on_at : {T : Type 0} → ℕ → Then T

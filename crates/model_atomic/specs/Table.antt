@@ -1,5 +1,6 @@
 -- The calls of an atomic, step for step: the lock inside, which is a reader-preferring lock's, and between its steps those on the two data words.
-use Rattle.model_atomic.specs.Names.{ℕ, ◌+◌, ◌-◌, ◌^◌, ◌==◌, Bool, false, if◌then◌else◌, Option, Some, None, unwrap_or, Word, Call, Answer, HoldKind, After, Arithmetic, Table, lets_readers_in, release}
+use Rattle.std.specs.Prelude.{ℕ, ◌+◌, ◌-◌, ◌^◌, ◌==◌, Bool, false, if◌then◌else◌, Option, Some, None, unwrap_or}
+use Rattle.model_atomic.specs.Names.{Word, Call, Answer, HoldKind, After, Arithmetic, Table, lets_readers_in, release}
 use Rattle.model_events.specs.declared.row.Intent.{Intent}
 use Rattle.model_atomic.specs.declared.AtomicPlace.{AtomicPlace}
 

@@ -1,5 +1,6 @@
 -- What a barrier keeps at every prefix of every run: rounds of n arrivals, each of which is full before one of its calls answers `Ok`.
-use Rattle.model_barrier.specs.Names.{◌≡◌, ◌≢◌, ℕ, ◌+◌, ◌%◌, ◌^◌, ◌<◌, ◌==◌, ◌↔◌, nat_lt, Bool, true, false, Option, Some, None, List, [], ◌∷◌, MatchBool, MatchOption, Word, Call, Act, Wake, Answer, Then, Event, call_of, holds_of, word_in, is_step, is_sight, AtLast, spins_in, last_of, StepsAs, seen_last, Loads, Exchanges, SpinCount, sight_at, Waiting, WaitsAs, Keeps, if◌then◌else◌}
+use Rattle.std.specs.Prelude.{◌≡◌, ◌≢◌, ℕ, ◌+◌, ◌%◌, ◌^◌, ◌<◌, ◌==◌, ◌↔◌, nat_lt, Bool, true, false, Option, Some, None, List, [], ◌∷◌, MatchBool, MatchOption, if◌then◌else◌}
+use Rattle.model_barrier.specs.Names.{Word, Call, Act, Wake, Answer, Then, Event, call_of, holds_of, word_in, is_step, is_sight, AtLast, spins_in, last_of, StepsAs, seen_last, Loads, Exchanges, SpinCount, sight_at, Waiting, WaitsAs, Keeps}
 use Rattle.model_barrier.specs.Rounds.{epoch_of, count_of, with_arrival, is_arrival, arrivals_in, round_of, full_rounds, IsFull, CountsArrivals}
 use Rattle.model_barrier.specs.Table.{barrier_table}
 

@@ -1,5 +1,6 @@
 -- Rounds: what a barrier's word says of them, and which round an arrival is in.
-use Rattle.model_barrier.specs.Names.{◌≡◌, ◌<◌, ℕ, ◌+◌, ◌*◌, ◌/◌, ◌%◌, ◌^◌, ◌==◌, Bool, List, Word, Act, Event, is_done_exchange, acts_in, if◌then◌else◌}
+use Rattle.std.specs.Prelude.{◌≡◌, ◌<◌, ℕ, ◌+◌, ◌*◌, ◌/◌, ◌%◌, ◌^◌, ◌==◌, Bool, List, if◌then◌else◌}
+use Rattle.model_barrier.specs.Names.{Word, Act, Event, is_done_exchange, acts_in}
 
 -- The word.
 

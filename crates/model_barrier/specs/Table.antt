@@ -1,5 +1,6 @@
 -- The call of a barrier, step for step.
-use Rattle.model_barrier.specs.Names.{ℕ, ◌+◌, ◌*◌, ◌/◌, ◌%◌, ◌^◌, ◌==◌, nat_lt, true, false, Option, Some, None, unwrap_or, Word, Wake, Call, Answer, After, within, refused, if◌then◌else◌}
+use Rattle.std.specs.Prelude.{ℕ, ◌+◌, ◌*◌, ◌/◌, ◌%◌, ◌^◌, ◌==◌, nat_lt, true, false, Option, Some, None, unwrap_or, if◌then◌else◌}
+use Rattle.model_barrier.specs.Names.{Word, Wake, Call, Answer, After, within, refused}
 use Rattle.model_events.specs.Exports.{Table}
 use Rattle.model_events.specs.declared.{row.Intent.Intent}
 use Rattle.model_barrier.specs.declared.BarrierPlace.{BarrierPlace}

@@ -1,6 +1,7 @@
 -- What a condition variable keeps at every prefix of every run: its waiter count, its permits, what each answer of a `Wait` means, a cause for each
 -- refusal, and how often a call tries.
-use Rattle.model_condvar.specs.Names.{◌≡◌, ℕ, zero, suc, min, ◌+◌, ◌-◌, ◌%◌, ◌^◌, ◌==◌, ◌&&◌, nat_lt, ◌⊎◌, Bool, true, false, List, [], ◌∷◌, Option, Some, None, unwrap_or, MatchBool, MatchOption, Word, Wake, Call, Act, Answer, Then, Event, HoldKind, PendingCall, call_of, hold_of, is_failure, is_step, sight_of, AtLastSight, keeps_asking, spins_in, SpinCount, but_last_try, Refusing, WaitEvents, Waiting, WaitsAs, StepsAs, refused_waiting, EndsWithin, step_before, Loads, Exchanges, IsLocked, Keeps, LockCause, HasTriedAll, answer_of, acts_of, IsLockAnswer, IsExactGrant, MutexStep, mutex_most, permits, permits_taken, KeepsPermits, is_empty_look, if◌then◌else◌}
+use Rattle.std.specs.Prelude.{◌≡◌, ℕ, zero, suc, min, ◌+◌, ◌-◌, ◌%◌, ◌^◌, ◌==◌, ◌&&◌, nat_lt, ◌⊎◌, Bool, true, false, List, [], ◌∷◌, Option, Some, None, unwrap_or, MatchBool, MatchOption, if◌then◌else◌}
+use Rattle.model_condvar.specs.Names.{Word, Wake, Call, Act, Answer, Then, Event, HoldKind, PendingCall, call_of, hold_of, is_failure, is_step, sight_of, AtLastSight, keeps_asking, spins_in, SpinCount, but_last_try, Refusing, WaitEvents, Waiting, WaitsAs, StepsAs, refused_waiting, EndsWithin, step_before, Loads, Exchanges, IsLocked, Keeps, LockCause, HasTriedAll, answer_of, acts_of, IsLockAnswer, IsExactGrant, MutexStep, mutex_most, permits, permits_taken, KeepsPermits, is_empty_look}
 use Rattle.model_mutex.specs.Law as mutex
 use Rattle.model_condvar.specs.Table.{condvar_table}
 use Rattle.model_condvar.specs.Waiters.{counts_in, since_count, CountsWaiters}

@@ -1,5 +1,5 @@
 -- What this crate reads of others.
-pub use Rattle.std.specs.Prelude.{◌≡◌, ℕ, zero, suc, min, ◌+◌, ◌-◌, ◌%◌, ◌^◌, ◌==◌, ◌&&◌, nat_lt, ◌⊎◌, Bool, true, false, List, [], ◌∷◌, Option, Some, None, unwrap_or, MatchBool, MatchOption, length, IfSome, if◌then◌else◌}
+pub use Rattle.std.specs.Prelude.{MatchBool, MatchOption, IfSome}
 pub use Rattle.model_events.specs.Exports.{Arithmetic, SpinCount, but_last_try, Refusing, WaitEvents, Waiting, WaitsAs, WhereAsked, IsLocked, Keeps, IsTold, Lacks, is_refusal, is_step, Move, step_at, fault_at, begin_fault, answer_fault, choose_fault, hold_fault, StepsAs, refused_waiting, EndsWithin, step_before, Loads, Exchanges, PendingCall, call_of, hold_of, is_failure, word_in, call_after, word_after, same_word, call_going_on, holds_of, hold_after, event, latest_outcome, is_release, within, within_then, carried_out, value_told, outcome_of, place_after, IsPast, sight_of, AtLastSight, keeps_asking, spins_in, acts_in, is_sight, is_abort}
 pub use Rattle.model_events.specs.declared.{WaitAction.WaitAction, event.Act.Act, event.Answer.Answer, event.Call.Call, event.Event.Event, event.Then.Then, event.Wake.Wake, event.Word.Word, hold.HoldKind.HoldKind, row.After.After}
 pub use Rattle.model_mutex.specs.Law.{LockCause, HasTriedAll, answer_of, acts_of, IsLockAnswer, IsExactGrant, MutexStep, mutex_most}

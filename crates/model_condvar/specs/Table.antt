@@ -1,6 +1,7 @@
 -- The calls of a condition variable and its mutex, step for step: the mutex's rows on `State`, the semaphore's on `Value`, and between them the
 -- rows on the waiter count.
-use Rattle.model_condvar.specs.Names.{ℕ, min, Bool, true, false, Option, Some, None, unwrap_or, WaitAction, Word, Wake, Call, Answer, HoldKind, After, within, within_then, MutexPlace, mutex_begins, mutex_intent, mutex_after, mutex_answered, mutex_needs_hold, mutex_grant, SemaphorePlace, semaphore_intent, semaphore_after, semaphore_answered, if◌then◌else◌}
+use Rattle.std.specs.Prelude.{ℕ, min, Bool, true, false, Option, Some, None, unwrap_or, if◌then◌else◌}
+use Rattle.model_condvar.specs.Names.{WaitAction, Word, Wake, Call, Answer, HoldKind, After, within, within_then, MutexPlace, mutex_begins, mutex_intent, mutex_after, mutex_answered, mutex_needs_hold, mutex_grant, SemaphorePlace, semaphore_intent, semaphore_after, semaphore_answered}
 use Rattle.model_events.specs.Exports.{Table}
 use Rattle.model_events.specs.declared.{row.Intent.Intent}
 use Rattle.model_condvar.specs.declared.CondvarPlace.{CondvarPlace}

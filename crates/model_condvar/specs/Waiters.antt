@@ -1,5 +1,6 @@
 -- Who waits at a condition variable: the `Wait` calls between their add to the waiter count and their subtraction from it.
-use Rattle.model_condvar.specs.Names.{◌≡◌, ℕ, ◌+◌, ◌%◌, ◌^◌, ◌==◌, ◌&&◌, Bool, true, false, List, [], ◌∷◌, length, Option, Some, None, Word, Call, Act, Event, PendingCall, call_of, word_in, acts_in, if◌then◌else◌}
+use Rattle.std.specs.Prelude.{◌≡◌, ℕ, ◌+◌, ◌%◌, ◌^◌, ◌==◌, ◌&&◌, Bool, true, false, List, [], ◌∷◌, length, Option, Some, None, if◌then◌else◌}
+use Rattle.model_condvar.specs.Names.{Word, Call, Act, Event, PendingCall, call_of, word_in, acts_in}
 use Rattle.model_condvar.specs.Table.{condvar_table}
 
 -- an act that changes the waiter count

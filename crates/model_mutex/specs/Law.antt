@@ -1,6 +1,7 @@
 -- What a mutex keeps at every prefix of every run: one holder, what each answer means, a cause for each refusal, how often a call tries, and when it
 -- asks its wait closure.
-use Rattle.model_mutex.specs.Names.{◌≡◌, ℕ, ◌+◌, ◌==◌, ◌&&◌, ◌↔◌, Bool, true, false, List, [], ◌∷◌, Option, Some, None, MatchBool, MatchOption, Word, Wake, Call, Act, Answer, Then, Event, HoldKind, Table, call_of, holds_of, hold_of, is_failure, failures_in, is_step, is_sight, AtLastSight, HasAborted, spins_in, stands_in, exchanges_in, SpinCount, sight_at, whole_call, Waiting, WaitsAs, IsLocked, is_refusal, Keeps}
+use Rattle.std.specs.Prelude.{◌≡◌, ℕ, ◌+◌, ◌==◌, ◌&&◌, ◌↔◌, Bool, true, false, List, [], ◌∷◌, Option, Some, None, MatchBool, MatchOption}
+use Rattle.model_mutex.specs.Names.{Word, Wake, Call, Act, Answer, Then, Event, HoldKind, Table, call_of, holds_of, hold_of, is_failure, failures_in, is_step, is_sight, AtLastSight, HasAborted, spins_in, stands_in, exchanges_in, SpinCount, sight_at, whole_call, Waiting, WaitsAs, IsLocked, is_refusal, Keeps}
 use Rattle.model_events.specs.NextStep.{StepsAs, refused_waiting, EndsWithin}
 use Rattle.model_mutex.specs.Table.{mutex_table}
 

@@ -1,5 +1,6 @@
 -- The calls of a mutex, step for step.
-use Rattle.model_mutex.specs.Names.{ℕ, Bool, true, false, ◌==◌, Option, Some, None, WaitAction, Word, Wake, Call, Answer, HoldKind, After, within, refused, answered, Table, if◌then◌else◌}
+use Rattle.std.specs.Prelude.{ℕ, Bool, true, false, ◌==◌, Option, Some, None, if◌then◌else◌}
+use Rattle.model_mutex.specs.Names.{WaitAction, Word, Wake, Call, Answer, HoldKind, After, within, refused, answered, Table}
 use Rattle.model_events.specs.declared.row.Intent.{Intent}
 use Rattle.model_mutex.specs.declared.MutexPlace.{MutexPlace}
 

@@ -1,5 +1,6 @@
 -- A closure that runs once: where it begins and ends, and what the word tells of it, at any table whose word is a once's.
-use Rattle.model_once.specs.Names.{◌≡◌, ◌≤◌, ℕ, ◌==◌, ◌↔◌, Bool, true, false, List, [], ◌∷◌, Option, Some, None, is_some, IfSome, MatchBool, MatchOption, Word, Act, Event, Then, Table, call_of, word_in, is_step, AtLast, is_done_exchange, is_exchange, acts_in, last_of, if◌then◌else◌}
+use Rattle.std.specs.Prelude.{◌≡◌, ◌≤◌, ℕ, ◌==◌, ◌↔◌, Bool, true, false, List, [], ◌∷◌, Option, Some, None, is_some, IfSome, MatchBool, MatchOption, if◌then◌else◌}
+use Rattle.model_once.specs.Names.{Word, Act, Event, Then, Table, call_of, word_in, is_step, AtLast, is_done_exchange, is_exchange, acts_in, last_of}
 
 -- a closure begins with an exchange that is done
 abbrev pub is_begin : {T : Type 0} → Act T → Bool

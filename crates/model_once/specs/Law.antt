@@ -1,5 +1,6 @@
 -- What a once keeps at every prefix of every run: one closure runs, once, and ends before any call tells of it.
-use Rattle.model_once.specs.Names.{◌≡◌, ◌≤◌, ℕ, ◌==◌, Bool, true, false, Option, Some, None, List, [], ◌∷◌, MatchBool, Word, Act, Answer, Call, Then, Event, holds_of, word_in, is_step, last_of, StepsAs, EndsWithin, Keeps}
+use Rattle.std.specs.Prelude.{◌≡◌, ◌≤◌, ℕ, ◌==◌, Bool, true, false, Option, Some, None, List, [], ◌∷◌, MatchBool}
+use Rattle.model_once.specs.Names.{Word, Act, Answer, Call, Then, Event, holds_of, word_in, is_step, last_of, StepsAs, EndsWithin, Keeps}
 use Rattle.model_once.specs.Closures.{begins_in, ends_in, EndsItsOwn, WaitsForAnother, StaysTwo, TellsState, has_tried, RunsOnce}
 use Rattle.model_once.specs.Table.{once_table}
 

@@ -1,5 +1,6 @@
 -- The calls of a once, step for step.
-use Rattle.model_once.specs.Names.{ℕ, ◌==◌, false, Option, Some, None, unwrap_or, Word, Call, Answer, Intent, After, Table, if◌then◌else◌}
+use Rattle.std.specs.Prelude.{ℕ, ◌==◌, false, Option, Some, None, unwrap_or, if◌then◌else◌}
+use Rattle.model_once.specs.Names.{Word, Call, Answer, Intent, After, Table}
 use Rattle.model_once.specs.declared.OncePlace.{OncePlace}
 
 abbrev pub once_begins : {T : Type 0} → Call T → Option OncePlace

@@ -1,6 +1,7 @@
 -- What a reader-preferring lock keeps at every prefix of every run: one writer or only readers, which its word counts, a cause for each
 -- refusal, and when a call asks its wait closure.
-use Rattle.model_rw_reader.specs.Names.{◌≡◌, ℕ, ◌+◌, ◌-◌, ◌%◌, ◌^◌, ◌<◌, ◌==◌, nat_lt, ◌↔◌, ◌⊎◌, Bool, true, false, not, List, [], ◌∷◌, Option, Some, None, MatchOption, Word, Wake, Call, Act, Answer, Then, Event, HoldKind, Hold, call_of, holds_of, word_in, reads_in, writes_in, AnswersByHold, is_step, is_sight, AtLastSight, HasAborted, HasMissed, spins_in, last_of, StepsAs, refused_waiting, EndsWithin, gives_up, reader_looked, ReadsIn, WritesIn, SpinCount, sight_at, whole_call, Waiting, WaitsAs, IsLocked, Keeps, if◌then◌else◌}
+use Rattle.std.specs.Prelude.{◌≡◌, ℕ, ◌+◌, ◌-◌, ◌%◌, ◌^◌, ◌<◌, ◌==◌, nat_lt, ◌↔◌, ◌⊎◌, Bool, true, false, not, List, [], ◌∷◌, Option, Some, None, MatchOption, if◌then◌else◌}
+use Rattle.model_rw_reader.specs.Names.{Word, Wake, Call, Act, Answer, Then, Event, HoldKind, Hold, call_of, holds_of, word_in, reads_in, writes_in, AnswersByHold, is_step, is_sight, AtLastSight, HasAborted, HasMissed, spins_in, last_of, StepsAs, refused_waiting, EndsWithin, gives_up, reader_looked, ReadsIn, WritesIn, SpinCount, sight_at, whole_call, Waiting, WaitsAs, IsLocked, Keeps}
 use Rattle.model_rw_reader.specs.Table.{rw_reader_table}
 
 -- The word and the holds.

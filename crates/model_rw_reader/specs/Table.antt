@@ -1,5 +1,6 @@
 -- The calls of a reader-preferring lock, step for step.
-use Rattle.model_rw_reader.specs.Names.{ℕ, ◌+◌, ◌-◌, ◌^◌, ◌==◌, nat_lt, Bool, true, false, Option, Some, None, unwrap_or, WaitAction, Word, Wake, Call, Answer, HoldKind, Patience, Intent, After, within, refused, answered, Table, if◌then◌else◌}
+use Rattle.std.specs.Prelude.{ℕ, ◌+◌, ◌-◌, ◌^◌, ◌==◌, nat_lt, Bool, true, false, Option, Some, None, unwrap_or, if◌then◌else◌}
+use Rattle.model_rw_reader.specs.Names.{WaitAction, Word, Wake, Call, Answer, HoldKind, Patience, Intent, After, within, refused, answered, Table}
 use Rattle.model_rw_reader.specs.declared.RwReaderPlace.{RwReaderPlace}
 
 -- a call begins with all its spins, and asks until its closure answers Abort

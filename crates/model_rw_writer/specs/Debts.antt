@@ -1,5 +1,6 @@
 -- Who owes what: a party whose event unblocked the lock has still to add to the counter, and one that made the word even to wake all.
-use Rattle.model_rw_writer.specs.Names.{◌≡◌, ℕ, ◌+◌, ◌%◌, ◌<◌, ◌^◌, ◌==◌, nat_lt, Bool, true, false, not, ◌&&◌, ◌||◌, List, [], ◌∷◌, Option, Some, None, ◌⊎◌, Word, Call, Act, Then, Event, Wake, Hold, PendingCall, call_of, holds_of, word_in, latest_outcome, reads_in, writes_in, is_step, acts_in, if◌then◌else◌}
+use Rattle.std.specs.Prelude.{◌≡◌, ℕ, ◌+◌, ◌%◌, ◌<◌, ◌^◌, ◌==◌, nat_lt, Bool, true, false, not, ◌&&◌, ◌||◌, List, [], ◌∷◌, Option, Some, None, ◌⊎◌, if◌then◌else◌}
+use Rattle.model_rw_writer.specs.Names.{Word, Call, Act, Then, Event, Wake, Hold, PendingCall, call_of, holds_of, word_in, latest_outcome, reads_in, writes_in, is_step, acts_in}
 use Rattle.model_rw_writer.specs.Table.{rw_writer_table}
 use Rattle.model_rw_writer.specs.Marks.{is_marked_after}
 

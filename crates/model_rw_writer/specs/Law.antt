@@ -1,6 +1,7 @@
 -- What a writer-preferring lock keeps at every prefix of every run: one writer or only readers, which its word counts beside the mark; a mark
 -- of a call that is under way, which keeps readers out; a cause for each refusal; and when a wait closure is asked, and what it is told.
-use Rattle.model_rw_writer.specs.Names.{◌≡◌, ◌≢◌, ℕ, ◌+◌, ◌*◌, ◌-◌, ◌%◌, ◌^◌, ◌<◌, ◌==◌, nat_lt, ◌↔◌, ◌⊎◌, ◌&&◌, ◌||◌, not, Bool, true, false, List, [], ◌∷◌, Option, Some, None, MatchBool, MatchOption, Word, Wake, Call, Act, Answer, Then, Event, HoldKind, Hold, call_of, holds_of, word_in, is_failure, reads_in, writes_in, acts_of, AnswersByHold, is_step, is_sight, is_beginning, AtLastSight, HasAborted, HasMissed, OtherWroteSinceSight, sight_of, goes_on, stands_at_wait, spins_in, last_of, keeps_asking, StepsAs, refused_waiting, EndsWithin, step_before, Loads, Exchanges, gives_up, reader_looked, ReadsIn, WritesIn, SpinCount, but_last_try, Refusing, whole_call, Waiting, WaitsAs, IsLocked, Keeps, if◌then◌else◌}
+use Rattle.std.specs.Prelude.{◌≡◌, ◌≢◌, ℕ, ◌+◌, ◌*◌, ◌-◌, ◌%◌, ◌^◌, ◌<◌, ◌==◌, nat_lt, ◌↔◌, ◌⊎◌, ◌&&◌, ◌||◌, not, Bool, true, false, List, [], ◌∷◌, Option, Some, None, MatchBool, MatchOption, if◌then◌else◌}
+use Rattle.model_rw_writer.specs.Names.{Word, Wake, Call, Act, Answer, Then, Event, HoldKind, Hold, call_of, holds_of, word_in, is_failure, reads_in, writes_in, acts_of, AnswersByHold, is_step, is_sight, is_beginning, AtLastSight, HasAborted, HasMissed, OtherWroteSinceSight, sight_of, goes_on, stands_at_wait, spins_in, last_of, keeps_asking, StepsAs, refused_waiting, EndsWithin, step_before, Loads, Exchanges, gives_up, reader_looked, ReadsIn, WritesIn, SpinCount, but_last_try, Refusing, whole_call, Waiting, WaitsAs, IsLocked, Keeps}
 use Rattle.model_rw_writer.specs.Table.{rw_writer_table}
 use Rattle.model_rw_writer.specs.Marks.{is_one_more, setter_of, is_marked_after, has_marked}
 use Rattle.model_rw_writer.specs.Debts.{loads_count, is_blocked_after, NoCountIsLost, PaysNext, ReadersAreWoken, CounterCountsAdds}

@@ -1,5 +1,6 @@
 -- The mark: a waiting writer sets it, and while it is set no reader enters.
-use Rattle.model_rw_writer.specs.Names.{ℕ, ◌+◌, ◌==◌, Bool, true, false, ◌&&◌, List, [], ◌∷◌, Option, Some, None, is_some, Word, Call, Act, Event, PendingCall, call_of, if◌then◌else◌}
+use Rattle.std.specs.Prelude.{ℕ, ◌+◌, ◌==◌, Bool, true, false, ◌&&◌, List, [], ◌∷◌, Option, Some, None, is_some, if◌then◌else◌}
+use Rattle.model_rw_writer.specs.Names.{Word, Call, Act, Event, PendingCall, call_of}
 
 abbrev pub is_writing : {T : Type 0} → Call T → Bool
 is_writing Call.WriteLock = true

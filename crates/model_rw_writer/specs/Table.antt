@@ -1,5 +1,6 @@
 -- The calls of a writer-preferring lock, step for step.
-use Rattle.model_rw_writer.specs.Names.{ℕ, ◌+◌, ◌-◌, ◌%◌, ◌^◌, ◌==◌, nat_lt, Bool, true, false, ◌&&◌, ◌||◌, not, Option, Some, None, unwrap_or, WaitAction, Word, Wake, Call, Answer, HoldKind, Patience, Intent, After, within, refused, answered, if◌then◌else◌}
+use Rattle.std.specs.Prelude.{ℕ, ◌+◌, ◌-◌, ◌%◌, ◌^◌, ◌==◌, nat_lt, Bool, true, false, ◌&&◌, ◌||◌, not, Option, Some, None, unwrap_or, if◌then◌else◌}
+use Rattle.model_rw_writer.specs.Names.{WaitAction, Word, Wake, Call, Answer, HoldKind, Patience, Intent, After, within, refused, answered}
 use Rattle.model_events.specs.Tables.{Table}
 use Rattle.model_rw_writer.specs.declared.Leaver.{Leaver}
 use Rattle.model_rw_writer.specs.declared.RwWriterPlace.{RwWriterPlace}

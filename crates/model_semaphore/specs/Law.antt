@@ -1,5 +1,6 @@
 -- What a semaphore keeps at every prefix of every run: its permits, a cause for each refusal, and when a call asks its wait closure.
-use Rattle.model_semaphore.specs.Names.{◌≡◌, ℕ, ◌+◌, ◌-◌, ◌%◌, ◌^◌, ◌==◌, ◌&&◌, Bool, true, false, List, [], Option, Some, None, unwrap_or, MatchBool, Word, Call, Act, Event, Wake, Answer, Then, PendingCall, holds_of, is_step, AtLastSight, HasAborted, spins_in, last_of, SpinCount, sight_at, whole_call, Waiting, WaitsAs, Keeps, if◌then◌else◌}
+use Rattle.std.specs.Prelude.{◌≡◌, ℕ, ◌+◌, ◌-◌, ◌%◌, ◌^◌, ◌==◌, ◌&&◌, Bool, true, false, List, [], Option, Some, None, unwrap_or, MatchBool, if◌then◌else◌}
+use Rattle.model_semaphore.specs.Names.{Word, Call, Act, Event, Wake, Answer, Then, PendingCall, holds_of, is_step, AtLastSight, HasAborted, spins_in, last_of, SpinCount, sight_at, whole_call, Waiting, WaitsAs, Keeps}
 use Rattle.model_events.specs.NextStep.{StepsAs, refused_waiting, EndsWithin}
 use Rattle.model_semaphore.specs.Table.{semaphore_table}
 use Rattle.model_semaphore.specs.Permits.{permits, KeepsPermits}

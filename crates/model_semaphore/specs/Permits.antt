@@ -1,5 +1,6 @@
 -- Permits: what was given and what was taken at a word, as plain whole numbers without a limit.
-use Rattle.model_semaphore.specs.Names.{◌≡◌, ◌≤◌, ℕ, ◌+◌, ◌-◌, ◌%◌, ◌^◌, Bool, false, ◌&&◌, List, [], ◌∷◌, Option, Some, None, IfSome, MatchBool, Word, Act, Answer, Then, Event, PendingCall, same_word, call_of, sight_of, if◌then◌else◌}
+use Rattle.std.specs.Prelude.{◌≡◌, ◌≤◌, ℕ, ◌+◌, ◌-◌, ◌%◌, ◌^◌, Bool, false, ◌&&◌, List, [], ◌∷◌, Option, Some, None, IfSome, MatchBool, if◌then◌else◌}
+use Rattle.model_semaphore.specs.Names.{Word, Act, Answer, Then, Event, PendingCall, same_word, call_of, sight_of}
 
 -- how many permits an act of a call gives
 abbrev pub Giving : Type 0 → Type 0

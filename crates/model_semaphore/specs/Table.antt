@@ -1,5 +1,6 @@
 -- The calls of a semaphore, step for step.
-use Rattle.model_semaphore.specs.Names.{ℕ, ◌-◌, ◌==◌, true, false, Option, Some, None, unwrap_or, WaitAction, Word, Wake, Call, Answer, Patience, After, within, refused, answered, if◌then◌else◌}
+use Rattle.std.specs.Prelude.{ℕ, ◌-◌, ◌==◌, true, false, Option, Some, None, unwrap_or, if◌then◌else◌}
+use Rattle.model_semaphore.specs.Names.{WaitAction, Word, Wake, Call, Answer, Patience, After, within, refused, answered}
 use Rattle.model_events.specs.Exports.{Table}
 use Rattle.model_events.specs.declared.{row.Intent.Intent}
 use Rattle.model_semaphore.specs.declared.SemaphorePlace.{SemaphorePlace}

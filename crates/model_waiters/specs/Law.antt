@@ -1,5 +1,6 @@
 -- What the count keeps at every prefix of every run: it is the number of those that wait, and each counts itself in, and later out.
-use Rattle.model_waiters.specs.Names.{◌≡◌, ℕ, ◌+◌, ◌%◌, ◌^◌, ◌-◌, ◌==◌, Bool, false, not, List, [], length, Option, Some, None, Word, Act, Answer, Call, Then, Event, call_of, holds_of, word_in, is_step, acts_in, last_of, is_counted, waiting_after, times, if◌then◌else◌}
+use Rattle.std.specs.Prelude.{◌≡◌, ℕ, ◌+◌, ◌%◌, ◌^◌, ◌-◌, ◌==◌, Bool, false, not, List, [], length, Option, Some, None, if◌then◌else◌}
+use Rattle.model_waiters.specs.Names.{Word, Act, Answer, Call, Then, Event, call_of, holds_of, word_in, is_step, acts_in, last_of, is_counted, waiting_after, times}
 use Rattle.model_events.specs.Exports.{Keeps, StepsAs, EndsWithin}
 use Rattle.model_waiters.specs.Table.{waiters_table}
 

@@ -1,5 +1,6 @@
 -- The calls of the count, step for step.
-use Rattle.model_waiters.specs.Names.{ℕ, Option, Some, None, false, unwrap_or, Word, Call, Answer, Intent, After, Table, WaitersPlace}
+use Rattle.std.specs.Prelude.{ℕ, Option, Some, None, false, unwrap_or}
+use Rattle.model_waiters.specs.Names.{Word, Call, Answer, Intent, After, Table, WaitersPlace}
 
 abbrev pub waiters_begins : {T : Type 0} → Call T → Option WaitersPlace
 waiters_begins Call.Value = Some WaitersPlace.Look

@@ -1,5 +1,6 @@
 -- A pass that has added one number so often, and done nothing else.
-use Rattle.running_atomic.specs.Names.{◌≡◌, ℕ, ◌+◌, List, [], ◌∷◌, zero, suc, Arithmetic, RegisterAct, plain}
+use Rattle.std.specs.Prelude.{◌≡◌, ℕ, ◌+◌, List, [], ◌∷◌}
+use Rattle.running_atomic.specs.Names.{zero, suc, Arithmetic, RegisterAct, plain}
 use Rattle.model_events.specs.declared.event.Call.TheVariants as calls
 use Rattle.running_atomic.specs.declared.pass.AtomicPass.{AtomicPass}
 use Rattle.running_atomic.specs.AtomicShown.{own_of, history_of}

@@ -1,5 +1,6 @@
 -- What two know of the same places: both know the same there, or they are torn.
-use Rattle.running_atomic.specs.Names.{◌≡◌, ◌≢◌, Bool, true, false, cond, List, [], ◌∷◌, refl, ap, ⊎_elim, Place, arith, nat_tests, eqb-true, eqb-false}
+use Rattle.std.specs.Prelude.{◌≡◌, ◌≢◌, Bool, true, false, cond, List, [], ◌∷◌}
+use Rattle.running_atomic.specs.Names.{refl, ap, ⊎_elim, Place, arith, nat_tests, eqb-true, eqb-false}
 use Rattle.running_atomic.specs.Alike.{Tells}
 use Rattle.running_atomic.specs.declared.history.Place.TheVariants.{Unknown, Is, Torn}
 

@@ -1,5 +1,6 @@
 -- Two are the same where the numbers that they are written as are the same.
-use Rattle.running_atomic.specs.Names.{◌≡◌, ◌≢◌, ℕ, Bool, true, false, List, [], ◌∷◌, ◌⊎◌, eqb, ◌&&◌, refl, zero, suc, inl, inr, arith, nat_tests, eqb-true, eqb-false}
+use Rattle.std.specs.Prelude.{◌≡◌, ◌≢◌, ℕ, Bool, true, false, List, [], ◌∷◌, ◌⊎◌, eqb, ◌&&◌}
+use Rattle.running_atomic.specs.Names.{refl, zero, suc, inl, inr, arith, nat_tests, eqb-true, eqb-false}
 
 -- a test tells whether two are the same
 abbrev pub Tells : {X : Type 0} → (X → X → Bool) → Type 0

@@ -1,5 +1,6 @@
 -- What the passes of an atomic count and know follows the run.
-use Rattle.running_atomic.specs.Names.{is_some, HoldKind, Word, Call, Answer, Act, Event, Arithmetic, IsValue, IsClosed, PendingCall, call_of, hold_of, word_in, word_after, stage_of, CallValues, IsPast, carried_out, AtomicPlace, atomic_table, atomic_intent, atomic_grant, release, RegisterAct, Outcome, plain, update, act_of, acted, value_after, after_acts, choice_of, choice_for, act_by, acts_at, acts_of_run, answer_of, is_last, ends_at_look, register_after, Held, Free, both_held, Locks, IsOnNoWord, on_no_word, StaysOnNoWord, SameOnNoWord, GoesOnByActs, ◌≡◌, ℕ, ◌+◌, ◌-◌, ◌%◌, ◌^◌, ◌<◌, ◌==◌, Bool, true, false, cond, List, [], ◌∷◌, ◌++◌, Option, Some, None, refl, sym, ap, subst, ◌∙◌, arith, eqb-true, eqb-false, ne_eqb, nat_tests, append-nil, IsKeptFromRest, Whatever, at_place_from_rest, puts_at, looks_at, again_at, put_is_chosen, register_by_acts, Will, DataAt, data_at, keeps, AtAtomic, here, AtomicTally, Content, AtomicAct, Heard}
+use Rattle.std.specs.Prelude.{is_some, ◌≡◌, ℕ, ◌+◌, ◌-◌, ◌%◌, ◌^◌, ◌<◌, ◌==◌, Bool, true, false, cond, List, [], ◌∷◌, ◌++◌, Option, Some, None}
+use Rattle.running_atomic.specs.Names.{HoldKind, Word, Call, Answer, Act, Event, Arithmetic, IsValue, IsClosed, PendingCall, call_of, hold_of, word_in, word_after, stage_of, CallValues, IsPast, carried_out, AtomicPlace, atomic_table, atomic_intent, atomic_grant, release, RegisterAct, Outcome, plain, update, act_of, acted, value_after, after_acts, choice_of, choice_for, act_by, acts_at, acts_of_run, answer_of, is_last, ends_at_look, register_after, Held, Free, both_held, Locks, IsOnNoWord, on_no_word, StaysOnNoWord, SameOnNoWord, GoesOnByActs, refl, sym, ap, subst, ◌∙◌, arith, eqb-true, eqb-false, ne_eqb, nat_tests, append-nil, IsKeptFromRest, Whatever, at_place_from_rest, puts_at, looks_at, again_at, put_is_chosen, register_by_acts, Will, DataAt, data_at, keeps, AtAtomic, here, AtomicTally, Content, AtomicAct, Heard}
 use Rattle.running_atomic.specs.History.{both_heard, both_tallies, no_acts, same_content}
 use Rattle.running_atomic.specs.AtomicModel.{atomic_model}
 use Rattle.running_atomic.specs.AtomicRule.{value_of, act_in, acts_in, written, all_written, history_of_run, known, each_once, register_of, IsReading, IsWriting, IsSettled, data_in, put_low, put_high, held_after, looked_at, stored, acted_by, heard_after, tally_after, tally_needs, IsRegister}

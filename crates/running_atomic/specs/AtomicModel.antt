@@ -1,5 +1,6 @@
 -- The model that an atomic plays.
-use Rattle.running_atomic.specs.Names.{ℕ, List, [], ◌∷◌, Word, Event, Arithmetic, IsValue, IsClosed, IsPast, AtomicPlace, atomic_table, KeepsAtomic, keeps_atomic, Model}
+use Rattle.std.specs.Prelude.{ℕ, List, [], ◌∷◌}
+use Rattle.running_atomic.specs.Names.{Word, Event, Arithmetic, IsValue, IsClosed, IsPast, AtomicPlace, atomic_table, KeepsAtomic, keeps_atomic, Model}
 
 -- What every run keeps, where the operators lead from values to values, and the opening value is one: so it is of every type that an
 -- atomic may hold.

@@ -1,5 +1,6 @@
 -- The party of the model that a pass of an atomic is, and how its calls go.
-use Rattle.running_atomic.specs.Names.{◌≡◌, ℕ, false, not, List, Option, Some, None, Call, Answer, Event, HoldKind, After, Arithmetic, hold_fault, IsPast, AtomicPlace, atomic_table, atomic_begins, atomic_grant, puts, inside, knows, RegisterAct, register_after, acts_of_run, ends_at_look, choice_for, Slot, Parties, slot_at, all_of, events_of, Matches, Coming, ComesBy, IsAt, Leads, HasEnded, Then}
+use Rattle.std.specs.Prelude.{◌≡◌, ℕ, false, not, List, Option, Some, None}
+use Rattle.running_atomic.specs.Names.{Call, Answer, Event, HoldKind, After, Arithmetic, hold_fault, IsPast, AtomicPlace, atomic_table, atomic_begins, atomic_grant, puts, inside, knows, RegisterAct, register_after, acts_of_run, ends_at_look, choice_for, Slot, Parties, slot_at, all_of, events_of, Matches, Coming, ComesBy, IsAt, Leads, HasEnded, Then}
 use Rattle.running_atomic.specs.AtomicModel.{atomic_model}
 
 -- a call that takes the lock for writing

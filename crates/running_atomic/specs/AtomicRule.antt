@@ -1,5 +1,6 @@
 -- An atomic as one register, by the model's acts; what a pass counts of its steps; and what the run says of all passes.
-use Rattle.running_atomic.specs.Names.{◌≡◌, ℕ, ◌-◌, ◌^◌, ◌==◌, true, if◌then◌else◌, List, [], ◌∷◌, ◌++◌, length, slice_index, Option, Some, None, Word, Call, Act, Event, Arithmetic, IsValue, IsClosed, word_in, AtomicPlace, atomic_table, RegisterAct, plain, update, ends_at_look, acts_of_run, register_after, one_more, Held, Free, Reading, Writing, Locks, seen, Sights, sights_after, AtomicTally, Content, AtomicAct, Place, Heard}
+use Rattle.std.specs.Prelude.{◌≡◌, ℕ, ◌-◌, ◌^◌, ◌==◌, true, if◌then◌else◌, List, [], ◌∷◌, ◌++◌, length, slice_index, Option, Some, None}
+use Rattle.running_atomic.specs.Names.{Word, Call, Act, Event, Arithmetic, IsValue, IsClosed, word_in, AtomicPlace, atomic_table, RegisterAct, plain, update, ends_at_look, acts_of_run, register_after, one_more, Held, Free, Reading, Writing, Locks, seen, Sights, sights_after, AtomicTally, Content, AtomicAct, Place, Heard}
 use Rattle.running_atomic.specs.declared.history.Place.TheVariants.{Is}
 use Rattle.running_atomic.specs.History.{content, heard, atomic_tally}
 

@@ -1,5 +1,6 @@
 -- What contracts see of an atomic and its pass, and what a call changes in a pass.
-use Rattle.running_atomic.specs.Names.{◌≡◌, ℕ, List, ◌++◌, codes, Option, Some, None, Call, Answer, Arithmetic, Pass, IsWhole, IsSamePass, view, part_of, Parties, HasCalled, parties_of, counts_of, counted, IsPassOf, key_of, Held, Writing, RegisterAct, answer_to, Part, Content, AtomicAct}
+use Rattle.std.specs.Prelude.{◌≡◌, ℕ, List, ◌++◌, codes, Option, Some, None}
+use Rattle.running_atomic.specs.Names.{Call, Answer, Arithmetic, Pass, IsWhole, IsSamePass, view, part_of, Parties, HasCalled, parties_of, counts_of, counted, IsPassOf, key_of, Held, Writing, RegisterAct, answer_to, Part, Content, AtomicAct}
 use Rattle.running_atomic.specs.declared.calls.Atomic.{Atomic}
 use Rattle.running_atomic.specs.declared.pass.AtomicPass.{AtomicPass}
 use Rattle.running_atomic.specs.declared.shown.AtomicShown.{AtomicShown}

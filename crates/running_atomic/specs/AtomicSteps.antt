@@ -1,5 +1,6 @@
 -- What the steps of an atomic tell, and what holds whenever its rule does.
-use Rattle.running_atomic.specs.Names.{◌≡◌, ◌≢◌, ℕ, false, MatchBool, List, [], ◌∷◌, ◌++◌, length, None, Call, Answer, Arithmetic, IsValue, IsClosed, View, IsWhole, together, missed, wrote, sum_of, IsCounted, one_more, both_counts, Held, Free, Reading, Writing, write_holds, AtomicPlace, RegisterAct, plain, answer_to, value_after, after_acts, Parties, none_played, both_played, PlaysAndCounts, some, get_elem?, State, Played, AtomicTally, Content, AtomicAct, Heard}
+use Rattle.std.specs.Prelude.{◌≡◌, ◌≢◌, ℕ, false, MatchBool, List, [], ◌∷◌, ◌++◌, length, None}
+use Rattle.running_atomic.specs.Names.{Call, Answer, Arithmetic, IsValue, IsClosed, View, IsWhole, together, missed, wrote, sum_of, IsCounted, one_more, both_counts, Held, Free, Reading, Writing, write_holds, AtomicPlace, RegisterAct, plain, answer_to, value_after, after_acts, Parties, none_played, both_played, PlaysAndCounts, some, get_elem?, State, Played, AtomicTally, Content, AtomicAct, Heard}
 use mathlib.Core.Option as maybe
 use Rattle.running_atomic.specs.declared.script.AtomicScript.{AtomicScript}
 use Rattle.running_atomic.specs.History.{content, both_heard, atomic_tally, both_tallies, no_acts}

@@ -1,5 +1,6 @@
 -- What is known of the history, and which places of it are own acts.
-use Rattle.running_atomic.specs.Names.{◌≡◌, ℕ, Bool, List, [], ◌∷◌, Some, None, Held, Free, TellsSame, both_held, both_counts, counts_swap, counts_group, refl, zero, suc, IsTally, held_adds_up, Content, AtomicAct, Place, Heard, AtomicTally, arith, nat_tests, eqb-true, eqb-false}
+use Rattle.std.specs.Prelude.{◌≡◌, ℕ, Bool, List, [], ◌∷◌, Some, None}
+use Rattle.running_atomic.specs.Names.{Held, Free, TellsSame, both_held, both_counts, counts_swap, counts_group, refl, zero, suc, IsTally, held_adds_up, Content, AtomicAct, Place, Heard, AtomicTally, arith, nat_tests, eqb-true, eqb-false}
 use Rattle.running_atomic.specs.Alike.{Tells, same_by, told_by, number_at}
 use Rattle.running_atomic.specs.Agree.{merge, merge_idem, merge_comm, merge_assoc}
 

@@ -1,5 +1,6 @@
 -- What is known of the history, and which acts are own, as it grows.
-use Rattle.running_atomic.specs.Names.{Arithmetic, count_at, one_more, both_counts, RegisterAct, ◌≡◌, ℕ, zero, suc, ◌≤◌, List, [], ◌∷◌, ◌++◌, length, sym, refl, ap, ◌∙◌, subst, arith, in_both, more_in_both, AtomicAct, Place, Heard}
+use Rattle.std.specs.Prelude.{◌≡◌, ℕ, ◌≤◌, List, [], ◌∷◌, ◌++◌, length}
+use Rattle.running_atomic.specs.Names.{Arithmetic, count_at, one_more, both_counts, RegisterAct, zero, suc, sym, refl, ap, ◌∙◌, subst, arith, in_both, more_in_both, AtomicAct, Place, Heard}
 use Rattle.running_atomic.specs.declared.history.Place.TheVariants.{Is}
 use Rattle.running_atomic.specs.Agree.{merge, met_is, met_else, by_same, merge_idem, merge_comm, merge_assoc}
 use Rattle.running_atomic.specs.History.{both_heard, same_act, acts_tell}

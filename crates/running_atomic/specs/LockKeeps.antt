@@ -1,5 +1,6 @@
 -- Each step of the lock, as a fact of its word, the data words and the holds.
-use Rattle.running_atomic.specs.Names.{Held, Free, Reading, Writing, TellsSame, both_held, write_holds, Locks, ◌≡◌, ℕ, ◌-◌, ◌^◌, Bool, arith, nat_tests, eqb-true, eqb-false}
+use Rattle.std.specs.Prelude.{◌≡◌, ℕ, ◌-◌, ◌^◌, Bool}
+use Rattle.running_atomic.specs.Names.{Held, Free, Reading, Writing, TellsSame, both_held, write_holds, Locks, arith, nat_tests, eqb-true, eqb-false}
 use Rattle.running_atomic.specs.AtomicRule.{register_of}
 
 -- where nobody writes, the register is what the data words are

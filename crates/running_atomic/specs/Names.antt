@@ -10,7 +10,7 @@ pub use Rattle.running_model.specs.Slots.{Slot, Parties, slot_at, all_of}
 pub use Rattle.running_model.specs.Stages.{IsPassOf, key_of}
 pub use Rattle.running_model.specs.Words.{IsOnNoWord, on_no_word, AllHold}
 pub use Rattle.std.specs.Int.{w128, w64}
-pub use Rattle.std.specs.Prelude.{◌≡◌, ◌≢◌, ◌-◌, ◌^◌, ◌==◌, if◌then◌else◌, Bool, true, false, cond, List, [], ◌∷◌, ℕ, ◌⊎◌, eqb, ◌&&◌, not, is_some, Option, Some, None, ◌++◌, length, slice_index, codes, ◌≤◌, MatchBool, ◌+◌}
+pub use Rattle.std.specs.Prelude.{◌≡◌, ◌≢◌, ◌-◌, ◌^◌, Bool, true, false, cond, List, [], ◌∷◌, ℕ, not, Option, Some, None, ◌++◌, length, ◌≤◌, MatchBool, ◌+◌}
 pub use Rattle.model_atomic.specs.Register.{RegisterAct, register_after, acts_of_run, ends_at_look, choice_for, plain, update, act_of, acted, is_last, answer_of, after_acts, acts_at, answer_to, value_after, Outcome, choice_of, act_by}
 pub use Rattle.model_atomic.specs.Table.{atomic_table, atomic_begins, atomic_grant, atomic_intent, puts, inside, knows, look_at, compares}
 pub use Rattle.model_rw_reader.specs.Table.{release}

@@ -1,5 +1,6 @@
 -- The party of the model that a pass of a barrier is, and how its `Wait` goes.
-use Rattle.running_barrier.specs.Names.{ℕ, List, None, Call, Answer, Then, BarrierPlace, look, joined, stay, barrier_model, Slot, Parties, IsAt, Leads, HasEnded}
+use Rattle.std.specs.Prelude.{ℕ, List, None}
+use Rattle.running_barrier.specs.Names.{Call, Answer, Then, BarrierPlace, look, joined, stay, barrier_model, Slot, Parties, IsAt, Leads, HasEnded}
 
 module _ (n : ℕ) where
   -- it saw this last, before its arrival, and goes on so

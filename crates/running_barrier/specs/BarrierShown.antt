@@ -1,5 +1,6 @@
 -- What contracts see of a barrier and its pass, and what a call changes in a pass.
-use Rattle.running_barrier.specs.Names.{◌≡◌, ℕ, ◌+◌, ◌<◌, ◌≤◌, ◌%◌, ◌^◌, ◌⊎◌, List, None, sum, Call, Answer, Then, BarrierPlace, epoch_of, count_of, opened, barrier_model, IsWhole, seen, stale, IsSamePass, part_of, sights_of, Played, all_of, HasCalled, IsAt, parties_of, tally_of, Rounds, BarrierScript, one_more, Pass, IsPassOf, key_of}
+use Rattle.std.specs.Prelude.{◌≡◌, ℕ, ◌+◌, ◌<◌, ◌≤◌, ◌%◌, ◌^◌, ◌⊎◌, List, None}
+use Rattle.running_barrier.specs.Names.{sum, Call, Answer, Then, BarrierPlace, epoch_of, count_of, opened, barrier_model, IsWhole, seen, stale, IsSamePass, part_of, sights_of, Played, all_of, HasCalled, IsAt, parties_of, tally_of, Rounds, BarrierScript, one_more, Pass, IsPassOf, key_of}
 use Rattle.running_barrier.specs.declared.Barrier.{Barrier}
 use Rattle.running_barrier.specs.BarrierSteps.{Arrives}
 

@@ -1,5 +1,6 @@
 -- What holds whenever the rule of a barrier does, and what a step changes in a pass.
-use Rattle.running_barrier.specs.Names.{◌≡◌, ◌≢◌, ℕ, ◌+◌, ◌%◌, ◌^◌, ◌<◌, ◌≤◌, [], ◌∷◌, sum, Word, BarrierPlace, epoch_of, count_of, barrier_model, View, IsWhole, total, stale, view_of, looked, missed, sum_of, IsCounted, Played, none_played, both_played, PlaysAndCounts, IsOfARun, Rounds, BarrierScript, one_more, in_round, no_rounds, both_rounds, reaching, word_of, AreRoundsIn, some, get_elem?, State}
+use Rattle.std.specs.Prelude.{◌≡◌, ◌≢◌, ℕ, ◌+◌, ◌%◌, ◌^◌, ◌<◌, ◌≤◌, [], ◌∷◌}
+use Rattle.running_barrier.specs.Names.{sum, Word, BarrierPlace, epoch_of, count_of, barrier_model, View, IsWhole, total, stale, view_of, looked, missed, sum_of, IsCounted, Played, none_played, both_played, PlaysAndCounts, IsOfARun, Rounds, BarrierScript, one_more, in_round, no_rounds, both_rounds, reaching, word_of, AreRoundsIn, some, get_elem?, State}
 
 -- what the pass of a barrier knows
 abbrev pub BarrierView : Type 0

@@ -9,7 +9,7 @@ pub use Rattle.running_model.specs.Plays.{IsAt, Leads, HasEnded, HasCalled, Goin
 pub use Rattle.running_model.specs.Slots.{Slot, Parties, all_of}
 pub use Rattle.running_model.specs.declared.played.Played.{Played}
 pub use Rattle.std.specs.List.{sum}
-pub use Rattle.std.specs.Prelude.{ℕ, List, None, ◌≡◌, ◌+◌, ◌<◌, ◌≤◌, ◌%◌, ◌^◌, ◌⊎◌, ◌≢◌, [], ◌∷◌, nat_lt}
+pub use Rattle.std.specs.Prelude.{ℕ, List, None, ◌≡◌, ◌+◌, ◌<◌, ◌≤◌, ◌%◌, ◌^◌, ◌≢◌, [], ◌∷◌, nat_lt}
 pub use Rattle.model_barrier.specs.Rounds.{epoch_of, count_of, opened, with_arrival, arrivals_in, full_rounds}
 pub use Rattle.model_barrier.specs.Table.{look, joined, stay, barrier_intent}
 pub use Rattle.model_barrier.specs.declared.BarrierPlace.{BarrierPlace}

@@ -1,5 +1,6 @@
 -- What a closure did that acts on a value, or cannot yet.
-use Rattle.running_guarded.specs.Names.{ℕ, Some, None, WaitResult, Success, Interrupted, MutBor, Mut, CalledAtMut, Option, Often}
+use Rattle.std.specs.Prelude.{ℕ, Some, None, Option}
+use Rattle.running_guarded.specs.Names.{WaitResult, Success, Interrupted, MutBor, Mut, CalledAtMut, Often}
 use Rattle.running_guarded.specs.declared.when.Looked.{Looked}
 use Rattle.running_guarded.specs.declared.when.Looked.TheVariants.{Acted, Again, GaveUp}
 

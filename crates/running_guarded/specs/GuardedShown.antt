@@ -1,5 +1,6 @@
 -- What contracts see of a guarded value, its pass and its guard, and what a call changes in a pass.
-use Rattle.running_guarded.specs.Names.{◌≡◌, ℕ, ◌+◌, ◌<◌, ◌≤◌, GName, Bor, Shared, TableId, WaitAction, IsWhole, HasWritten, Often, view_in, Locks, Lets, Enters, Part, Sights}
+use Rattle.std.specs.Prelude.{◌≡◌, ℕ, ◌+◌, ◌<◌, ◌≤◌}
+use Rattle.running_guarded.specs.Names.{GName, Bor, Shared, TableId, WaitAction, IsWhole, HasWritten, Often, view_in, Locks, Lets, Enters, Part, Sights}
 use Rattle.running_guarded.specs.declared.pass.GuardedPass.{GuardedPass}
 use Rattle.running_guarded.specs.declared.guard.Guard.{Guard}
 use Rattle.running_guarded.specs.declared.guarded.Guarded.{Guarded}

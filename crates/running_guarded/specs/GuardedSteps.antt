@@ -1,5 +1,6 @@
 -- What a step on the word of a guarded value tells of the seat that makes it, and what several steps change in what the seat knows.
-use Rattle.running_guarded.specs.Names.{◌≡◌, ℕ, ◌+◌, ◌≤◌, Bool, Option, Some, Bor, MutBor, Shared, Once, FnOnceReturnsAtMut, seen_instead, MayAnswerContinue, WaitAction, Call, Answer, HoldKind, mutex_model, Parties, Coming, HasCalled, Unlocks, IsLocked, Sees, OnlySees}
+use Rattle.std.specs.Prelude.{◌≡◌, ℕ, ◌+◌, ◌≤◌, Bool, Option, Some}
+use Rattle.running_guarded.specs.Names.{Bor, MutBor, Shared, Once, FnOnceReturnsAtMut, seen_instead, MayAnswerContinue, WaitAction, Call, Answer, HoldKind, mutex_model, Parties, Coming, HasCalled, Unlocks, IsLocked, Sees, OnlySees}
 use Rattle.running_spin_lock.specs.ValueSteps as values
 use Rattle.running_guarded.specs.GuardedRule.{MutexView}
 

@@ -1,5 +1,6 @@
 -- Slots that the seats of passes carry, by what these count.
-use Rattle.running_model.specs.Names.{ℕ, List, Event, Word}
+use Rattle.std.specs.Prelude.{ℕ, List}
+use Rattle.running_model.specs.Names.{Event, Word}
 use mathlib.Core.Option as maybe
 use Rattle.atomic_table.specs.Table as tables
 use Rattle.atomic_table.specs.Table.{Valid, homes_after, carried_after}

@@ -1,5 +1,6 @@
 -- What a choice closure has chosen for a call under way.
-use Rattle.running_model.specs.Names.{List, Option, Some, None, MutBor, Call, Then, HoldKind}
+use Rattle.std.specs.Prelude.{List, Option, Some, None}
+use Rattle.running_model.specs.Names.{MutBor, Call, Then, HoldKind}
 use Rattle.running_model.specs.declared.choosing.Choice.{Choice}
 use Rattle.running_model.specs.Models.{Model}
 use Rattle.running_model.specs.Slots.{Slot, Parties}

@@ -1,5 +1,6 @@
 -- What a call changes in what a pass of an object that plays a model counts and saw; what it changes in its parties is said apart.
-use Rattle.running_model.specs.Names.{◌≡◌, ℕ, Bor, Shared, WaitAction, Part, Pass, HasLooked, HasOnlyRead, HasWritten, looked, missed, wrote, part_of, sights_of, IsSamePass, HasAsked}
+use Rattle.std.specs.Prelude.{◌≡◌, ℕ}
+use Rattle.running_model.specs.Names.{Bor, Shared, WaitAction, Part, Pass, HasLooked, HasOnlyRead, HasWritten, looked, missed, wrote, part_of, sights_of, IsSamePass, HasAsked}
 use Rattle.running_model.specs.declared.played.Played.{Played}
 use Rattle.running_model.specs.Passes.{counts_of, counted}
 

@@ -1,5 +1,6 @@
 -- Whether the acting party of a pass has a hold, as a test.
-use Rattle.running_model.specs.Names.{ℕ, zero, suc, Bool, true, false, ◌&&◌, is_none, List, [], ◌∷◌, Option, Some, Event, HoldKind, Table, call_of, hold_of}
+use Rattle.std.specs.Prelude.{ℕ, zero, suc, Bool, true, false, ◌&&◌, is_none, List, [], ◌∷◌, Option, Some}
+use Rattle.running_model.specs.Names.{Event, HoldKind, Table, call_of, hold_of}
 use Rattle.running_model.specs.Slots.{Slot, Free, Mine, Torn, Parties}
 
 -- these are the slots of one party, which is its owner's

@@ -1,5 +1,6 @@
 -- A model, and what is known of every run of it.
-use Rattle.running_model.specs.Names.{List, Event, Arithmetic, Table}
+use Rattle.std.specs.Prelude.{List}
+use Rattle.running_model.specs.Names.{Event, Arithmetic, Table}
 
 -- The steps of an object over values of V: P is the type of the places of its calls.
 pub record Model (V P : Type 0) : Type 1 where

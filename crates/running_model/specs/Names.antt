@@ -28,9 +28,9 @@ pub use Rattle.running_passes.specs.declared.part.Part.{Part}
 pub use Rattle.running_passes.specs.declared.part.Sights.{Sights}
 pub use Rattle.running_passes.specs.declared.pass.Pass.{Pass}
 pub use Rattle.running_passes.specs.declared.view.View.{View}
-pub use Rattle.std.proofs.Common.{◌≢◌, ◌≤◌, refl, sym, ap, ◌∙◌, length, arith}
+pub use Rattle.std.proofs.Common.{refl, sym, ap, ◌∙◌, arith}
 pub use Rattle.std.proofs.lemmas.Bool.{eqb-true, eqb-false}
 pub use Rattle.std.proofs.lemmas.Bool.Decides.{nat_tests}
 pub use Rattle.std.specs.Borrow.{MutBor, Bor}
 pub use Rattle.std.specs.Fn.{Shared, FnReturns}
-pub use Rattle.std.specs.Prelude.{ℕ, List, Option, Some, None, ◌≡◌, zero, suc, Bool, true, false, ◌&&◌, is_none, [], ◌∷◌, ◌⊎◌, ◌==◌, if◌then◌else◌, ◌+◌, ◌-◌, ◌%◌, ◌^◌, nat_lt}
+pub use Rattle.std.specs.Prelude.{nat_lt}

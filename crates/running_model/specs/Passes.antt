@@ -1,5 +1,6 @@
 -- What a pass of an object that plays a model is there, and what it counts beside.
-use Rattle.running_model.specs.Names.{◌≡◌, ℕ, List, ◌∷◌, Option, Pass, View, IsTally, view_of, view, tally_of, Word, Call, Event, HoldKind, Intent, carried_out, word_in, IsPast, Act, Sights}
+use Rattle.std.specs.Prelude.{◌≡◌, ℕ, List, ◌∷◌, Option}
+use Rattle.running_model.specs.Names.{Pass, View, IsTally, view_of, view, tally_of, Word, Call, Event, HoldKind, Intent, carried_out, word_in, IsPast, Act, Sights}
 use mathlib.Core.Option as maybe
 use Rattle.running_model.specs.Models.{Model}
 use Rattle.running_model.specs.declared.played.Played.{Played}

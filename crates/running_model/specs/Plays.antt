@@ -1,5 +1,6 @@
 -- The rule of an object that plays a model: its words are those of some run of the model, in which the passes are parties.
-use Rattle.running_model.specs.Names.{◌≡◌, ◌⊎◌, ℕ, ◌==◌, if◌then◌else◌, List, [], ◌∷◌, Option, Some, None, WaitAction, Word, Call, Act, Answer, Then, Event, Input, HoldKind, Intent, After, carried_out, value_told, PendingCall, call_of, hold_of, hold_after, word_in, latest_outcome, stage_of, hold_fault, CallValues, InputValues, IsPast}
+use Rattle.std.specs.Prelude.{◌≡◌, ◌⊎◌, ℕ, ◌==◌, if◌then◌else◌, List, [], ◌∷◌, Option, Some, None}
+use Rattle.running_model.specs.Names.{WaitAction, Word, Call, Act, Answer, Then, Event, Input, HoldKind, Intent, After, carried_out, value_told, PendingCall, call_of, hold_of, hold_after, word_in, latest_outcome, stage_of, hold_fault, CallValues, InputValues, IsPast}
 use Rattle.running_model.specs.Models.{Model}
 use Rattle.running_model.specs.Slots.{Slot, Free, Mine, Torn, all, slot_at, only, Parties, all_of}
 use Rattle.running_model.specs.Words.{AllHold, IsNamed, IsStepOn, IsAside, IsOnNoWord}

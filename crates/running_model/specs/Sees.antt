@@ -1,6 +1,7 @@
 -- What an act makes of what its pass saw, where each load, each exchange that failed and each swap that found what it puts is a sight, and all other
 -- acts on a word are writes.
-use Rattle.running_model.specs.Names.{Act, true, false, if◌then◌else◌, ◌==◌, Sights, seen, seen_instead, stale}
+use Rattle.std.specs.Prelude.{true, false, if◌then◌else◌, ◌==◌}
+use Rattle.running_model.specs.Names.{Act, Sights, seen, seen_instead, stale}
 
 abbrev pub sights_after : {V : Type 0} → Act V → Sights → Sights
 sights_after (Act.Load word found) s = seen s found

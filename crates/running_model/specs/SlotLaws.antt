@@ -1,5 +1,6 @@
 -- The parties of passes add up.
-use Rattle.running_model.specs.Names.{◌≡◌, ◌≢◌, ℕ, zero, suc, ◌≤◌, refl, sym, ap, ◌∙◌, List, [], ◌∷◌, length, arith, IsTally, nat_tests, eqb-true, eqb-false}
+use Rattle.std.specs.Prelude.{◌≡◌, ◌≢◌, ℕ, zero, suc, ◌≤◌, List, [], ◌∷◌, length}
+use Rattle.running_model.specs.Names.{refl, sym, ap, ◌∙◌, arith, IsTally, nat_tests, eqb-true, eqb-false}
 use Rattle.running_model.specs.Slots.{Slot, Free, both, all, slot_at, only, Parties, no_parties, all_of, both_parties}
 
 pub free_adds : {V : Type 0} (s : Slot V) → both s Free ≡ s

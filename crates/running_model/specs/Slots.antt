@@ -1,5 +1,6 @@
 -- What a pass is in the model: the parties that are its own, each with all events that it has made.
-use Rattle.running_model.specs.Names.{ℕ, zero, suc, List, [], ◌∷◌, Event}
+use Rattle.std.specs.Prelude.{ℕ, zero, suc, List, [], ◌∷◌}
+use Rattle.running_model.specs.Names.{Event}
 
 -- of one party: it has made nothing; or it is its owner's, and has made these events, newest first; or two say that it is theirs
 pub data Slot (V : Type 0) : Type 0 where

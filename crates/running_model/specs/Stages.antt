@@ -1,5 +1,6 @@
 -- What contracts see of the words of an object that plays a model.
-use Rattle.running_model.specs.Names.{ℕ, Pass}
+use Rattle.std.specs.Prelude.{ℕ}
+use Rattle.running_model.specs.Names.{Pass}
 use Rattle.atomic_table.specs.Seated.{TableId}
 use Rattle.running_passes.specs.declared.origin.Origin.{Origin}
 use Rattle.running_passes.specs.declared.words.Word.{Word}

@@ -1,5 +1,6 @@
 -- Counts that are a sum over the acts of a run.
-use Rattle.running_model.specs.Names.{◌≡◌, ℕ, ◌+◌, if◌then◌else◌, List, [], ◌∷◌, Option, None, Act, Event, HoldKind, PendingCall, call_of, holds_of, hold_taken, Table, IsTally, ap, sym, ◌∙◌, arith, nat_tests, eqb-true, eqb-false}
+use Rattle.std.specs.Prelude.{◌≡◌, ℕ, ◌+◌, if◌then◌else◌, List, [], ◌∷◌, Option, None}
+use Rattle.running_model.specs.Names.{Act, Event, HoldKind, PendingCall, call_of, holds_of, hold_taken, Table, IsTally, ap, sym, ◌∙◌, arith, nat_tests, eqb-true, eqb-false}
 use Rattle.running_model.specs.Holding.{is_kind}
 use Rattle.running_model.specs.Words.{IsOnNoWord, on_no_word}
 use Rattle.running_model.specs.Passes.{StaysOnNoWord}

@@ -1,5 +1,6 @@
 -- A call that tries again until it is granted or gives up.
-use Rattle.running_model.specs.Names.{◌≡◌, ℕ, true, List, Option, None, Bor, Shared, FnReturns, Word, Wake, Call, Answer, Then, HoldKind, Patience, Intent, within, refused}
+use Rattle.std.specs.Prelude.{◌≡◌, ℕ, true, List, Option, None}
+use Rattle.running_model.specs.Names.{Bor, Shared, FnReturns, Word, Wake, Call, Answer, Then, HoldKind, Patience, Intent, within, refused}
 use Rattle.running_model.specs.Models.{Model}
 use Rattle.running_model.specs.Slots.{Slot, Parties}
 use Rattle.running_model.specs.Words.{IsNamed}

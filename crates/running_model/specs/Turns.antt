@@ -1,5 +1,6 @@
 -- What a wait closure has answered a call under way, and how a call is over.
-use Rattle.running_model.specs.Names.{◌≡◌, ℕ, List, Option, None, MutBor, View, WaitAction, Word, Wake, Call, Answer, Then, HoldKind, Intent, After}
+use Rattle.std.specs.Prelude.{◌≡◌, ℕ, List, Option, None}
+use Rattle.running_model.specs.Names.{MutBor, View, WaitAction, Word, Wake, Call, Answer, Then, HoldKind, Intent, After}
 use Rattle.atomic_table.specs.declared.shared.Seat.{Seat}
 use Rattle.running_model.specs.declared.turn.Answered.{Answered}
 use Rattle.running_model.specs.declared.seat.SeatAnswered.{SeatAnswered}

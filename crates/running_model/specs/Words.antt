@@ -1,5 +1,6 @@
 -- The words of an object, by the names that they have in its model.
-use Rattle.running_model.specs.Names.{◌≡◌, ℕ, zero, suc, ◌+◌, ◌-◌, ◌%◌, ◌^◌, ◌==◌, false, if◌then◌else◌, List, [], ◌∷◌, Option, Word, Wake, Call, WaitAction, Intent, Act, same_word, nat_tests, eqb-true, eqb-false, arith}
+use Rattle.std.specs.Prelude.{◌≡◌, ℕ, zero, suc, ◌+◌, ◌-◌, ◌%◌, ◌^◌, ◌==◌, false, if◌then◌else◌, List, [], ◌∷◌, Option}
+use Rattle.running_model.specs.Names.{Word, Wake, Call, WaitAction, Intent, Act, same_word, nat_tests, eqb-true, eqb-false, arith}
 
 -- each word holds what the memory tells of its name
 abbrev pub AllHold : List Word → List ℕ → (Word → ℕ) → Type 0

@@ -1,5 +1,6 @@
 -- What the passes of a condition variable's count count, the model that it plays, and that the counts follow the run.
-use Rattle.running_mutex.specs.Names.{ℕ, List, Event, WaitersPlace, KeepsWaiters, ◌≡◌, ◌+◌, ◌%◌, ◌^◌, if◌then◌else◌, [], ◌∷◌, length, slice_index, Word, Call, State, Pass, View, sum_of, IsCounted, Played, none_played, both_played, PlaysAndCounts, IsOfARun, Act, is_in, is_out, ins_in, outs_in, Bool, true, false, cond, refl, arith, StaysOnNoWord, GoesOnByActs}
+use Rattle.std.specs.Prelude.{ℕ, List, ◌≡◌, ◌+◌, ◌%◌, ◌^◌, if◌then◌else◌, [], ◌∷◌, length, slice_index, Bool, true, false}
+use Rattle.running_mutex.specs.Names.{Event, WaitersPlace, KeepsWaiters, Word, Call, State, Pass, View, sum_of, IsCounted, Played, none_played, both_played, PlaysAndCounts, IsOfARun, Act, is_in, is_out, ins_in, outs_in, cond, refl, arith, StaysOnNoWord, GoesOnByActs}
 use Rattle.model_events.specs.Integers.{u64_arithmetic}
 use Rattle.model_events.specs.Runs.{IsPast}
 use Rattle.model_waiters.specs.Table.{waiters_table}

@@ -1,5 +1,6 @@
 -- The party of the model that a pass of a condition variable's count is, and how its `Wait` goes.
-use Rattle.running_mutex.specs.Names.{ℕ, List, None, Call, Answer, Then, Slot, Parties, IsAt, HasCalled, HasEnded, WaitersPlace}
+use Rattle.std.specs.Prelude.{ℕ, List, None}
+use Rattle.running_mutex.specs.Names.{Call, Answer, Then, Slot, Parties, IsAt, HasCalled, HasEnded, WaitersPlace}
 use Rattle.running_mutex.specs.Cond.{waiters_model}
 
 -- it is counted in, and the next that it does is to end what it does while it is so

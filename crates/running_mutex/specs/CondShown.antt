@@ -1,5 +1,6 @@
 -- What contracts see of a condition variable and its pass, and what a call changes in a pass.
-use Rattle.running_mutex.specs.Names.{◌≡◌, ◌<◌, ℕ, Bool, MatchBool, Option, Some, None, Bor, Shared, Once, FnOnceReturnsAt, WaitAction, Part, IsWhole, HasLooked, IsSamePass, part_of, sights_of, MayAnswerAbort, HasAsked, counts_of, parties_of, Parties, HasCalled, Call, Answer, HoldKind, mutex_model, HasMoved, WasRefused, Holds, granted, released, gave, IsPassOf, HasSeen, HasDone, SemPass, IsSemPass, IsEmpty, HasTaken, worth_of, HasPlayed, HasPlayedPost}
+use Rattle.std.specs.Prelude.{◌≡◌, ◌<◌, ℕ, Bool, MatchBool, Option, Some, None}
+use Rattle.running_mutex.specs.Names.{Bor, Shared, Once, FnOnceReturnsAt, WaitAction, Part, IsWhole, HasLooked, IsSamePass, part_of, sights_of, MayAnswerAbort, HasAsked, counts_of, parties_of, Parties, HasCalled, Call, Answer, HoldKind, mutex_model, HasMoved, WasRefused, Holds, granted, released, gave, IsPassOf, HasSeen, HasDone, SemPass, IsSemPass, IsEmpty, HasTaken, worth_of, HasPlayed, HasPlayedPost}
 use Rattle.running_passes.specs.declared.wait.WaitResult.{WaitResult}
 use Rattle.running_passes.specs.declared.wait.WaitResult.TheVariants.{Success, Interrupted}
 use Rattle.running_mutex.specs.MutexParties.{Unlocks}

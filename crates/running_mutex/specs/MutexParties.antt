@@ -1,5 +1,6 @@
 -- A party of the model that has a mutex, and that lets it go.
-use Rattle.running_mutex.specs.Names.{◌≡◌, ℕ, true, List, None, Call, Then, HoldKind, MutexPlace, mutex_table, mutex_model, Slot, Parties, IsAt, IsHolding}
+use Rattle.std.specs.Prelude.{◌≡◌, ℕ, true, List, None}
+use Rattle.running_mutex.specs.Names.{Call, Then, HoldKind, MutexPlace, mutex_table, mutex_model, Slot, Parties, IsAt, IsHolding}
 use Rattle.running_model.specs.Holding.{is_holding}
 
 -- a party of the pass has the mutex

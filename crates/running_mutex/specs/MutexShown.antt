@@ -1,5 +1,6 @@
 -- What contracts see of a mutex, its pass and its hold, and what a call changes in a pass.
-use Rattle.running_mutex.specs.Names.{◌≡◌, ◌≢◌, ℕ, ◌+◌, ◌≤◌, Bool, Option, Some, MatchBool, GName, Call, Answer, HoldKind, MutexPlace, mutex_model, Part, Pass, IsWhole, IsSamePass, part_of, sights_of, Played, Parties, Coming, HasCalled, Went, parties_of, counts_of, counted, HasMoved, Holds, MutexScript, RattleType, u64, IsPassOf}
+use Rattle.std.specs.Prelude.{◌≡◌, ◌≢◌, ℕ, ◌+◌, ◌≤◌, Bool, Option, Some, MatchBool}
+use Rattle.running_mutex.specs.Names.{GName, Call, Answer, HoldKind, MutexPlace, mutex_model, Part, Pass, IsWhole, IsSamePass, part_of, sights_of, Played, Parties, Coming, HasCalled, Went, parties_of, counts_of, counted, HasMoved, Holds, MutexScript, RattleType, u64, IsPassOf}
 use Rattle.running_passes.specs.contracts.pass.Pass.{the_row}
 use Rattle.running_model.specs.contracts.played.Played as played_row
 use Rattle.running_tallies.specs.contracts.mutex.MutexScript as script_row

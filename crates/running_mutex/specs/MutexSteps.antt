@@ -1,5 +1,6 @@
 -- What holds whenever the rule of a mutex does, and what a step changes in a pass.
-use Rattle.running_mutex.specs.Names.{◌≡◌, ℕ, ◌≤◌, [], ◌∷◌, slice_index, State, View, missed, wrote, sum_of, IsCounted, Word, MutexPlace, mutex_table, mutex_model, Played, none_played, both_played, PlaysAndCounts, IsOfARun, Holds, MutexScript, AreHoldsIn, both_holds, no_holds, granted, released}
+use Rattle.std.specs.Prelude.{◌≡◌, ℕ, ◌≤◌, [], ◌∷◌, slice_index}
+use Rattle.running_mutex.specs.Names.{State, View, missed, wrote, sum_of, IsCounted, Word, MutexPlace, mutex_table, mutex_model, Played, none_played, both_played, PlaysAndCounts, IsOfARun, Holds, MutexScript, AreHoldsIn, both_holds, no_holds, granted, released}
 use mathlib.Core.Option.{some}
 use lib.ListN.{get_elem?}
 

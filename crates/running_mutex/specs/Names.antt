@@ -35,7 +35,7 @@ pub use Rattle.running_semaphore.specs.SemaphoreSteps.{gave}
 pub use Rattle.running_tallies.specs.Mutex.{granted, released, AreHoldsIn, both_holds, no_holds, holds_after, mutex_model}
 pub use Rattle.running_tallies.specs.declared.mutex.Holds.{Holds}
 pub use Rattle.running_tallies.specs.declared.mutex.MutexScript.{MutexScript}
-pub use Rattle.std.proofs.Common.{false, cond, refl, arith, zero, suc}
+pub use Rattle.std.proofs.Common.{cond, refl, arith, zero, suc}
 pub use Rattle.std.specs.Borrow.{Bor, GName, RattleType, u64}
 pub use Rattle.std.specs.Fn.{Shared, Once, FnOnceReturnsAt}
-pub use Rattle.std.specs.Prelude.{ℕ, List, None, ◌≡◌, ◌+◌, ◌%◌, ◌^◌, if◌then◌else◌, [], ◌∷◌, length, slice_index, ◌<◌, Bool, MatchBool, Option, Some, true, ◌≢◌, ◌≤◌, min}
+pub use Rattle.std.specs.Prelude.{min}

@@ -1,5 +1,6 @@
 -- What is done again and again.
-use Rattle.running_mutex.specs.Names.{◌≡◌, ℕ, zero, suc, Answer, Call, SemPass, HasPlayed, initial_of}
+use Rattle.std.specs.Prelude.{◌≡◌, ℕ}
+use Rattle.running_mutex.specs.Names.{zero, suc, Answer, Call, SemPass, HasPlayed, initial_of}
 use Rattle.running_mutex.specs.declared.condition_variable.CondPass.{CondPass}
 use Rattle.running_mutex.specs.declared.condition_variable.ConditionVariable.{ConditionVariable}
 use Rattle.running_mutex.specs.CondShown.{permits_in}

@@ -7,7 +7,7 @@ pub use Rattle.running_model.specs.Passes.{none_played, both_played, PlaysAndCou
 pub use Rattle.running_model.specs.Plays.{HasCalled, IsAt, HasEnded, Going, Aside, Beginning, MayStep, Went, Coming, ComesBy, Led}
 pub use Rattle.running_model.specs.Slots.{Parties, Slot, all_of}
 pub use Rattle.running_model.specs.declared.played.Played.{Played}
-pub use Rattle.std.specs.Prelude.{◌≡◌, ℕ, true, None, List, ◌≢◌, ◌+◌, ◌*◌, ◌≤◌, Bool, false, ◌||◌, ◌==◌, [], ◌∷◌, ◌<◌, ◌⊎◌, MatchBool}
+pub use Rattle.std.specs.Prelude.{◌≡◌, ℕ, true, None, List, ◌≢◌, ◌+◌, Bool, false, ◌||◌, ◌==◌, [], ◌∷◌, MatchBool}
 pub use Rattle.model_events.specs.declared.event.Act.{Act}
 pub use Rattle.model_events.specs.declared.event.Answer.{Answer}
 pub use Rattle.model_events.specs.declared.event.Call.{Call}

@@ -1,5 +1,6 @@
 -- What the passes of a once count and know, the model that a once plays, the rule over all passes, and that the counts follow the run.
-use Rattle.running_once.specs.Names.{ℕ, List, Event, OncePlace, once_table, KeepsOnce, u64_arithmetic, Model, IsPast, keeps_once, ◌≡◌, ◌+◌, ◌*◌, ◌≤◌, Bool, true, false, ◌||◌, ◌==◌, [], ◌∷◌, Word, Call, Act, begins_in, ends_in, View, IsWhole, total, view_of, looked, IsCounted, sum_of, Played, none_played, both_played, PlaysAndCounts, IsOfARun, some, get_elem?, State, word_in, acts_in, Runs, OnceScript, cond, refl, ◌∙◌, arith, eqb-true, eqb-false, nat_tests, word_after, carried_out, once_intent, is_begin, is_end, StaysOnNoWord, GoesOnByActs, IsTally}
+use Rattle.std.specs.Prelude.{ℕ, List, ◌≡◌, ◌+◌, ◌*◌, ◌≤◌, Bool, true, false, ◌||◌, ◌==◌, [], ◌∷◌}
+use Rattle.running_once.specs.Names.{Event, OncePlace, once_table, KeepsOnce, u64_arithmetic, Model, IsPast, keeps_once, Word, Call, Act, begins_in, ends_in, View, IsWhole, total, view_of, looked, IsCounted, sum_of, Played, none_played, both_played, PlaysAndCounts, IsOfARun, some, get_elem?, State, word_in, acts_in, Runs, OnceScript, cond, refl, ◌∙◌, arith, eqb-true, eqb-false, nat_tests, word_after, carried_out, once_intent, is_begin, is_end, StaysOnNoWord, GoesOnByActs, IsTally}
 
 -- The model that it plays.
 

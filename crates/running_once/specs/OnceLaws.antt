@@ -1,5 +1,6 @@
 -- What the law tells of an answer that a pass got.
-use Rattle.running_once.specs.Names.{◌≡◌, ℕ, true, None, Call, Answer, ends_in, Parties, HasCalled}
+use Rattle.std.specs.Prelude.{◌≡◌, ℕ, true, None}
+use Rattle.running_once.specs.Names.{Call, Answer, ends_in, Parties, HasCalled}
 use Rattle.running_once.specs.Once.{once_model}
 
 -- in the run in which a `CallOnce` was answered `Done`, the closure had ended before

@@ -1,5 +1,6 @@
 -- The party of the model that a pass of a once is, and how its `CallOnce` goes.
-use Rattle.running_once.specs.Names.{ℕ, List, None, Call, Answer, Then, OncePlace, Slot, Parties, IsAt, HasEnded}
+use Rattle.std.specs.Prelude.{ℕ, List, None}
+use Rattle.running_once.specs.Names.{Call, Answer, Then, OncePlace, Slot, Parties, IsAt, HasEnded}
 use Rattle.running_once.specs.Once.{once_model}
 
 -- it has looked, and comes to its exchange

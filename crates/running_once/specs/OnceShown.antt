@@ -1,5 +1,6 @@
 -- What contracts see of a once and its pass, and what a call changes in a pass.
-use Rattle.running_once.specs.Names.{◌≡◌, ◌≢◌, ℕ, ◌<◌, ◌≤◌, ◌⊎◌, true, None, Call, Answer, OncePlace, View, IsSamePass, part_of, sights_of, looked, wrote, Played, Parties, HasCalled, parties_of, counts_of, counted, Part, Sights, Pass, IsPassOf, Runs, OnceScript}
+use Rattle.std.specs.Prelude.{◌≡◌, ◌≢◌, ℕ, ◌<◌, ◌≤◌, ◌⊎◌, true, None}
+use Rattle.running_once.specs.Names.{Call, Answer, OncePlace, View, IsSamePass, part_of, sights_of, looked, wrote, Played, Parties, HasCalled, parties_of, counts_of, counted, Part, Sights, Pass, IsPassOf, Runs, OnceScript}
 use Rattle.running_once.specs.Once.{once_model, learns, began, ended}
 use Rattle.running_once.specs.declared.Once.{Once}
 use Rattle.running_once.specs.declared.OncePass.{OncePass}

@@ -1,5 +1,6 @@
 -- How a reader of either lock goes on, and what it saw.
-use Rattle.running_rw_hold.specs.Names.{◌≡◌, ◌≢◌, ◌⊎◌, ℕ, ◌+◌, ◌≤◌, ◌==◌, MatchBool, List, Some, None, HoldKind, Pass, part_of, sights_of, looked, wrote}
+use Rattle.std.specs.Prelude.{◌≡◌, ◌≢◌, ◌⊎◌, ℕ, ◌+◌, ◌≤◌, ◌==◌, MatchBool, List, Some, None}
+use Rattle.running_rw_hold.specs.Names.{HoldKind, Pass, part_of, sights_of, looked, wrote}
 use Rattle.model_events.specs.declared.event.Answer.{Answer}
 use Rattle.model_events.specs.declared.event.Call.{Call}
 use Rattle.model_events.specs.declared.patience.Patience.{Patience}

@@ -1,5 +1,6 @@
 -- What contracts see of the hold of a reader-writer lock, and what a call of either lock changes in a pass.
-use Rattle.running_rw_hold.specs.Names.{◌≡◌, true, ◌⊎◌, ℕ, ◌+◌, HoldKind, Pass, sights_of, looked}
+use Rattle.std.specs.Prelude.{◌≡◌, true, ◌⊎◌, ℕ, ◌+◌}
+use Rattle.running_rw_hold.specs.Names.{HoldKind, Pass, sights_of, looked}
 use Rattle.std.specs.Borrow.{GName}
 use Rattle.running_passes.specs.declared.view.View.{View}
 use Rattle.running_rw_hold.specs.declared.hold.RwPass.{Ghosts}

@@ -26,4 +26,4 @@ pub use Rattle.running_tallies.specs.RwReader.{Holds, no_holds, read, no_more_re
 pub use Rattle.running_tallies.specs.declared.held.Held.TheVariants.{Free}
 pub use Rattle.std.specs.Borrow.{Bor}
 pub use Rattle.std.specs.Fn.{Shared}
-pub use Rattle.std.specs.Prelude.{ℕ, Bool, List, None, ◌≡◌, ◌≢◌, ◌+◌, ◌-◌, ◌^◌, ◌<◌, ◌≤◌, Option, ◌*◌, [], ◌∷◌, slice_index, IfOk, IfErr}
+pub use Rattle.std.specs.Prelude.{IfOk, IfErr}

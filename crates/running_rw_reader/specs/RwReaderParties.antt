@@ -1,5 +1,6 @@
 -- The party of the model that a pass of a reader-preferring lock is, and how its calls go.
-use Rattle.running_rw_reader.specs.Names.{ℕ, Bool, List, None, Call, Then, HoldKind, RwReaderPlace, rw_reader_table, rw_reader_model, Slot, Parties, IsAt, IsHolding}
+use Rattle.std.specs.Prelude.{ℕ, Bool, List, None}
+use Rattle.running_rw_reader.specs.Names.{Call, Then, HoldKind, RwReaderPlace, rw_reader_table, rw_reader_model, Slot, Parties, IsAt, IsHolding}
 use Rattle.running_model.specs.Holding.{is_holding}
 
 -- a party of the pass has a hold of this kind

@@ -1,5 +1,6 @@
 -- What contracts see of a reader-preferring lock and its pass, and what a call changes in a pass.
-use Rattle.running_rw_reader.specs.Names.{◌≡◌, ◌≢◌, ℕ, ◌+◌, ◌-◌, ◌^◌, ◌<◌, ◌≤◌, Option, Call, Answer, HoldKind, rw_reader_model, IsWhole, IsSamePass, part_of, sights_of, looked, missed, wrote, HasCalled, parties_of, tally_of, counted, HasOnlySeen, HasMoved, Ghosts, RwHold, read_holds, write_holds, Holds, no_holds, read, no_more_read, written}
+use Rattle.std.specs.Prelude.{◌≡◌, ◌≢◌, ℕ, ◌+◌, ◌-◌, ◌^◌, ◌<◌, ◌≤◌, Option}
+use Rattle.running_rw_reader.specs.Names.{Call, Answer, HoldKind, rw_reader_model, IsWhole, IsSamePass, part_of, sights_of, looked, missed, wrote, HasCalled, parties_of, tally_of, counted, HasOnlySeen, HasMoved, Ghosts, RwHold, read_holds, write_holds, Holds, no_holds, read, no_more_read, written}
 use Rattle.running_passes.specs.declared.part.Part.{Part}
 use Rattle.running_passes.specs.declared.pass.Pass.{Pass}
 use Rattle.std.specs.Borrow.{RattleType, u64, unit}

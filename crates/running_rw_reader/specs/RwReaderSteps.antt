@@ -1,5 +1,6 @@
 -- What holds whenever the rule of a reader-preferring lock does, and what a step changes in a pass.
-use Rattle.running_rw_reader.specs.Names.{◌≡◌, ℕ, ◌+◌, ◌-◌, ◌*◌, ◌^◌, ◌<◌, [], ◌∷◌, Word, RwReaderPlace, rw_reader_table, rw_reader_model, View, sum_of, IsCounted, none_played, both_played, PlaysAndCounts, IsOfARun, read_holds, write_holds, Locks, Holds, AreHoldsIn, both_holds, no_holds, slice_index}
+use Rattle.std.specs.Prelude.{◌≡◌, ℕ, ◌+◌, ◌-◌, ◌*◌, ◌^◌, ◌<◌, [], ◌∷◌, slice_index}
+use Rattle.running_rw_reader.specs.Names.{Word, RwReaderPlace, rw_reader_table, rw_reader_model, View, sum_of, IsCounted, none_played, both_played, PlaysAndCounts, IsOfARun, read_holds, write_holds, Locks, Holds, AreHoldsIn, both_holds, no_holds}
 use mathlib.Core.Option.{some}
 use lib.ListN.{get_elem?}
 use Rattle.atomic_table.specs.Table.{State}

@@ -32,6 +32,6 @@ pub use Rattle.running_tallies.specs.Held.{read_holds, write_holds, Knows, same_
 pub use Rattle.running_tallies.specs.RwReader.{no_holds, Holds, both_holds}
 pub use Rattle.running_tallies.specs.RwWriter.{read, no_more_read, written, no_more_written, flagged, nothing_marked, both_marked, lowered, AreMarkedIn, IsMarkedOrHeld, marked_sees, marked_after, marked_needed, rw_writer_model, rw_writer_handed}
 pub use Rattle.running_tallies.specs.declared.rw_writer.MarkedHolds.{MarkedHolds}
-pub use Rattle.std.specs.Prelude.{◌≡◌, ◌⊎◌, ℕ, false, if◌then◌else◌, Bool, List, [], ◌∷◌, Some, None, ◌≢◌, true, Option, ◌+◌, ◌-◌, ◌*◌, ◌%◌, ◌^◌, ◌<◌, ◌≤◌, slice_index, is_some}
+pub use Rattle.std.specs.Prelude.{is_some}
 pub use mathlib.Core.Logic.{dite}
 pub use native.Mathlib.Decide.{ℕ_discrete}

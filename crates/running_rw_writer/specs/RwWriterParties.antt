@@ -1,5 +1,6 @@
 -- The party of the model that a pass of a writer-preferring lock is, and how its calls go.
-use Rattle.running_rw_writer.specs.Names.{◌≡◌, ◌⊎◌, ℕ, false, if◌then◌else◌, Bool, List, [], ◌∷◌, Some, None, WaitAction, Word, Call, Answer, HoldKind, Patience, Intent, After, Leaver, RwWriterPlace, rw_writer_table, woken_one, is_last_reader, rw_writer_model, Slot, Parties, Coming, Answered, ComesBy, IsHolding, Leads, HasEnded, MayStep, Went, is_holding}
+use Rattle.std.specs.Prelude.{◌≡◌, ◌⊎◌, ℕ, false, if◌then◌else◌, Bool, List, [], ◌∷◌, Some, None}
+use Rattle.running_rw_writer.specs.Names.{WaitAction, Word, Call, Answer, HoldKind, Patience, Intent, After, Leaver, RwWriterPlace, rw_writer_table, woken_one, is_last_reader, rw_writer_model, Slot, Parties, Coming, Answered, ComesBy, IsHolding, Leads, HasEnded, MayStep, Went, is_holding}
 
 -- a party of the pass has a hold of this kind
 abbrev pub has_hold : HoldKind → Parties ℕ → Bool

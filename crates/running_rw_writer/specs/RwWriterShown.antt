@@ -1,5 +1,6 @@
 -- What contracts see of a writer-preferring lock and its pass, and what a call changes in a pass.
-use Rattle.running_rw_writer.specs.Names.{◌≡◌, ◌≢◌, true, false, ◌⊎◌, ℕ, Option, ◌+◌, ◌-◌, ◌*◌, ◌%◌, ◌^◌, ◌<◌, ◌≤◌, Part, Sights, View, Pass, IsWhole, IsSamePass, view, part_of, sights_of, looked, missed, wrote, HasCalled, all_of, parties_of, tally_of, counted, HasOnlySeen, HasMoved, Call, Answer, HoldKind, rw_writer_model, Ghosts, RwHold, MarkedHolds, read_holds, write_holds, read, no_more_read, written, no_more_written, flagged}
+use Rattle.std.specs.Prelude.{◌≡◌, ◌≢◌, true, false, ◌⊎◌, ℕ, Option, ◌+◌, ◌-◌, ◌*◌, ◌%◌, ◌^◌, ◌<◌, ◌≤◌}
+use Rattle.running_rw_writer.specs.Names.{Part, Sights, View, Pass, IsWhole, IsSamePass, view, part_of, sights_of, looked, missed, wrote, HasCalled, all_of, parties_of, tally_of, counted, HasOnlySeen, HasMoved, Call, Answer, HoldKind, rw_writer_model, Ghosts, RwHold, MarkedHolds, read_holds, write_holds, read, no_more_read, written, no_more_written, flagged}
 use Rattle.running_model.specs.Stages.{IsPassOf}
 use Rattle.running_rw_writer.specs.declared.RwLockWriterPreference.{RwLockWriterPreference}
 use Rattle.running_rw_writer.specs.declared.pass.RwWriterPass.{RwWriterPass}

@@ -1,5 +1,6 @@
 -- What holds whenever the rule of a writer-preferring lock does, and what a step changes in a pass.
-use Rattle.running_rw_writer.specs.Names.{◌≡◌, ◌≢◌, ℕ, ◌+◌, ◌-◌, ◌*◌, ◌%◌, ◌^◌, ◌<◌, [], ◌∷◌, slice_index, Word, RwWriterPlace, rw_writer_model, Part, Sights, View, IsWhole, Each, seen_instead, view_of, wrote, IsCounted, sum_of, none_played, both_played, PlaysAndCounts, IsOfARun, MarkedHolds, read_holds, write_holds, no_holds, nothing_marked, both_marked, written, lowered, AreMarkedIn, IsMarkedOrHeld}
+use Rattle.std.specs.Prelude.{◌≡◌, ◌≢◌, ℕ, ◌+◌, ◌-◌, ◌*◌, ◌%◌, ◌^◌, ◌<◌, [], ◌∷◌, slice_index}
+use Rattle.running_rw_writer.specs.Names.{Word, RwWriterPlace, rw_writer_model, Part, Sights, View, IsWhole, Each, seen_instead, view_of, wrote, IsCounted, sum_of, none_played, both_played, PlaysAndCounts, IsOfARun, MarkedHolds, read_holds, write_holds, no_holds, nothing_marked, both_marked, written, lowered, AreMarkedIn, IsMarkedOrHeld}
 use mathlib.Core.Option.{some}
 use lib.ListN.{get_elem?}
 use Rattle.atomic_table.specs.Table.{State}

@@ -25,4 +25,3 @@ pub use Rattle.running_passes.specs.declared.wait.WaitResult.TheVariants.{Succes
 pub use Rattle.running_tallies.specs.Semaphore.{value_of, permits, no_permits, both_permits, ArePermitsOf, permits_after, semaphore_model}
 pub use Rattle.running_tallies.specs.declared.semaphore.Permits.{Permits}
 pub use Rattle.running_tallies.specs.declared.semaphore.SemaphoreScript.{SemaphoreScript}
-pub use Rattle.std.specs.Prelude.{ℕ, ◌-◌, Bool, true, List, None, MatchBool, ◌≡◌, ◌+◌, ◌<◌, ◌≤◌, ◌%◌, ◌^◌, [], ◌∷◌, slice_index}

@@ -1,5 +1,6 @@
 -- The parties of the model that a pass of a semaphore is, and how their calls go.
-use Rattle.running_semaphore.specs.Names.{ℕ, ◌-◌, Bool, List, None, MatchBool, Call, Answer, within, refused, SemaphorePlace, try_look, look, semaphore_model, Slot, Parties, Coming, ComesBy, Leads, HasEnded}
+use Rattle.std.specs.Prelude.{ℕ, ◌-◌, Bool, List, None, MatchBool}
+use Rattle.running_semaphore.specs.Names.{Call, Answer, within, refused, SemaphorePlace, try_look, look, semaphore_model, Slot, Parties, Coming, ComesBy, Leads, HasEnded}
 use Rattle.model_events.specs.declared.patience.Patience.{Patience}
 use Rattle.model_events.specs.declared.row.After.{After}
 

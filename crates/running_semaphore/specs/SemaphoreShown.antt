@@ -1,5 +1,6 @@
 -- What contracts see of a semaphore and its pass, and what a call changes in a pass.
-use Rattle.running_semaphore.specs.Names.{◌≡◌, ℕ, Bool, true, MatchBool, ◌+◌, ◌<◌, ◌≤◌, ◌%◌, ◌^◌, None, Call, Answer, Then, SemaphorePlace, semaphore_model, WaitResult, Success, Interrupted, IsWhole, IsSamePass, part_of, sights_of, looked, wrote, HasLooked, LooksOnceOrMisses, HasSeen, HasOnlySeen, WasRefused, Played, Parties, all_of, HasCalled, IsAt, parties_of, counts_of, counted, HasMoved, Permits, SemaphoreScript, value_of}
+use Rattle.std.specs.Prelude.{◌≡◌, ℕ, Bool, true, MatchBool, ◌+◌, ◌<◌, ◌≤◌, ◌%◌, ◌^◌, None}
+use Rattle.running_semaphore.specs.Names.{Call, Answer, Then, SemaphorePlace, semaphore_model, WaitResult, Success, Interrupted, IsWhole, IsSamePass, part_of, sights_of, looked, wrote, HasLooked, LooksOnceOrMisses, HasSeen, HasOnlySeen, WasRefused, Played, Parties, all_of, HasCalled, IsAt, parties_of, counts_of, counted, HasMoved, Permits, SemaphoreScript, value_of}
 use Rattle.running_passes.specs.declared.part.Part.{Part}
 use Rattle.running_passes.specs.declared.pass.Pass.{Pass}
 use Rattle.running_model.specs.Stages.{IsPassOf, key_of}

@@ -1,5 +1,6 @@
 -- What holds whenever the rule of a semaphore does, and what a step changes in a pass.
-use Rattle.running_semaphore.specs.Names.{◌≡◌, ℕ, ◌+◌, ◌≤◌, ◌<◌, ◌^◌, [], ◌∷◌, slice_index, Word, SemaphorePlace, View, sum_of, IsCounted, Played, none_played, both_played, PlaysAndCounts, IsOfARun, Permits, SemaphoreScript, permits, no_permits, both_permits, value_of, ArePermitsOf, semaphore_model}
+use Rattle.std.specs.Prelude.{◌≡◌, ℕ, ◌+◌, ◌≤◌, ◌<◌, ◌^◌, [], ◌∷◌, slice_index}
+use Rattle.running_semaphore.specs.Names.{Word, SemaphorePlace, View, sum_of, IsCounted, Played, none_played, both_played, PlaysAndCounts, IsOfARun, Permits, SemaphoreScript, permits, no_permits, both_permits, value_of, ArePermitsOf, semaphore_model}
 use Rattle.atomic_table.specs.Table.{State}
 
 -- what a pass of a semaphore is in its model, and counts beside

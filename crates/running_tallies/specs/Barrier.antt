@@ -1,5 +1,6 @@
 -- What the passes of a barrier count and know, the model that it plays, and that this follows the run.
-use Rattle.running_tallies.specs.Names.{◌≡◌, ℕ, ◌+◌, ◌-◌, ◌*◌, ◌/◌, ◌%◌, ◌^◌, ◌<◌, ◌≤◌, ◌==◌, true, max, if◌then◌else◌, List, [], slice_index, Word, Call, Act, Event, sum, arith, u64_arithmetic, Model, IsPast, ◌≢◌, suc, Bool, false, cond, ◌∷◌, refl, sym, ap, subst, ◌∙◌, add-mul, eqb-true, eqb-false, word_in, carried_out, IsTally, IsOnNoWord, on_no_word, StaysOnNoWord, SameOnNoWord, GoesOnByActs, nat_tests}
+use Rattle.std.specs.Prelude.{◌≡◌, ℕ, ◌+◌, ◌-◌, ◌*◌, ◌/◌, ◌%◌, ◌^◌, ◌<◌, ◌≤◌, ◌==◌, true, max, if◌then◌else◌, List, [], slice_index, ◌≢◌, suc, Bool, false, cond, ◌∷◌}
+use Rattle.running_tallies.specs.Names.{Word, Call, Act, Event, sum, arith, u64_arithmetic, Model, IsPast, refl, sym, ap, subst, ◌∙◌, add-mul, eqb-true, eqb-false, word_in, carried_out, IsTally, IsOnNoWord, on_no_word, StaysOnNoWord, SameOnNoWord, GoesOnByActs, nat_tests}
 use Rattle.running_tallies.specs.declared.barrier.Rounds.{Rounds}
 use Rattle.running_tallies.specs.Counts.{one_more, both_counts, counts_swap, counts_group}
 use Rattle.model_barrier.specs.Law.{KeepsBarrier}

@@ -1,5 +1,6 @@
 -- What a count is where lists of counts are added up, and where one more is counted.
-use Rattle.running_tallies.specs.Names.{◌≡◌, ◌≢◌, ℕ, zero, suc, ◌+◌, List, [], ◌∷◌, refl, ap, arith, nat_tests, eqb-true, eqb-false}
+use Rattle.std.specs.Prelude.{◌≡◌, ◌≢◌, ℕ, zero, suc, ◌+◌, List, [], ◌∷◌}
+use Rattle.running_tallies.specs.Names.{refl, ap, arith, nat_tests, eqb-true, eqb-false}
 use Rattle.running_tallies.specs.Counts.{count_at, one_more, both_counts}
 
 pub in_both : (place : ℕ) (xs ys : List ℕ) → count_at place (both_counts xs ys) ≡ count_at place xs + count_at place ys

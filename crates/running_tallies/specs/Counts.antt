@@ -1,5 +1,6 @@
 -- A count for each place of a list, added up place by place.
-use Rattle.running_tallies.specs.Names.{slice_index, ◌≡◌, ℕ, zero, suc, ◌+◌, List, [], ◌∷◌, refl, add_assoc, add_comm, nat_tests, eqb-true, eqb-false, arith}
+use Rattle.std.specs.Prelude.{slice_index, ◌≡◌, ℕ, zero, suc, ◌+◌, List, [], ◌∷◌}
+use Rattle.running_tallies.specs.Names.{refl, add_assoc, add_comm, nat_tests, eqb-true, eqb-false, arith}
 
 -- the count for this place
 abbrev pub count_at : ℕ → List ℕ → ℕ

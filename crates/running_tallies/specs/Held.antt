@@ -1,5 +1,6 @@
 -- What the passes of a reader-writer lock count together, and what that says of the lock's word.
-use Rattle.running_tallies.specs.Names.{◌≡◌, ℕ, zero, suc, ◌+◌, ◌*◌, ◌-◌, ◌^◌, ◌<◌, Bool, true, cond, refl, arith, IsTally, nat_tests, eqb-true, eqb-false}
+use Rattle.std.specs.Prelude.{◌≡◌, ℕ, zero, suc, ◌+◌, ◌*◌, ◌-◌, ◌^◌, ◌<◌, Bool, true, cond}
+use Rattle.running_tallies.specs.Names.{refl, arith, IsTally, nat_tests, eqb-true, eqb-false}
 use Rattle.running_tallies.specs.declared.held.Held.{Held}
 use Rattle.running_tallies.specs.declared.held.Held.TheVariants.{Free, Reading, Writing, Torn}
 

@@ -1,5 +1,6 @@
 -- What each step of a reader-writer lock does to what all passes count, whatever its holds know.
-use Rattle.running_tallies.specs.Names.{◌≡◌, ℕ, ◌+◌, ◌-◌, ◌^◌, ◌<◌, Bool, arith, nat_tests, eqb-true, eqb-false}
+use Rattle.std.specs.Prelude.{◌≡◌, ℕ, ◌+◌, ◌-◌, ◌^◌, ◌<◌, Bool}
+use Rattle.running_tallies.specs.Names.{arith, nat_tests, eqb-true, eqb-false}
 use Rattle.running_tallies.specs.declared.held.Held.{Held}
 use Rattle.running_tallies.specs.declared.held.Held.TheVariants.{Free, Writing}
 use Rattle.running_tallies.specs.Held.{TellsSame, both_held, read_holds, write_holds, Knows, reader_in, reader_out, Locks}

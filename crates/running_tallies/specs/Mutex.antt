@@ -1,5 +1,6 @@
 -- What the passes of a lock with one holder at most count, the model that a mutex plays, and that the counts follow the run.
-use Rattle.running_tallies.specs.Names.{◌≡◌, ℕ, zero, ◌+◌, ◌≤◌, true, List, length, Word, Call, Act, Event, HoldKind, Table, holds_of, grants_in, u64_arithmetic, Model, IsPast, refl, ap, sym, subst, ◌∙◌, [], ◌∷◌, Option, Some, arith, eqb-true, eqb-false, nat_tests, word_in, word_after, carried_out, Intent, Hold, PendingCall, StaysOnNoWord, GoesOnByActs, grants_by, same_grants, next_grants, quiet_holds, pairs_add_up, IsTally}
+use Rattle.std.specs.Prelude.{◌≡◌, ℕ, zero, ◌+◌, ◌≤◌, true, List, length, [], ◌∷◌, Option, Some}
+use Rattle.running_tallies.specs.Names.{Word, Call, Act, Event, HoldKind, Table, holds_of, grants_in, u64_arithmetic, Model, IsPast, refl, ap, sym, subst, ◌∙◌, arith, eqb-true, eqb-false, nat_tests, word_in, word_after, carried_out, Intent, Hold, PendingCall, StaysOnNoWord, GoesOnByActs, grants_by, same_grants, next_grants, quiet_holds, pairs_add_up, IsTally}
 use Rattle.running_tallies.specs.declared.mutex.Holds.{Holds}
 use Rattle.model_mutex.specs.declared.MutexPlace.{MutexPlace}
 use Rattle.model_mutex.specs.Table.{mutex_table}

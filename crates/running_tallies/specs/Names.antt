@@ -16,8 +16,8 @@ pub use Rattle.running_model.specs.Passes.{StaysOnNoWord, SameOnNoWord, GoesOnBy
 pub use Rattle.running_model.specs.Sums.{grants_in, grants_by, same_grants, next_grants, quiet_holds, pairs_add_up}
 pub use Rattle.running_model.specs.Words.{IsOnNoWord, on_no_word}
 pub use Rattle.running_passes.specs.Tallies.{IsTally}
-pub use Rattle.std.proofs.Common.{arith, ◌≢◌, ◌∷◌, inl, inr, refl, sym, ap, subst, ◌∙◌, add-mul, add_assoc, add_comm, Option, Some}
+pub use Rattle.std.proofs.Common.{arith, inl, inr, refl, sym, ap, subst, ◌∙◌, add-mul, add_assoc, add_comm}
 pub use Rattle.std.proofs.lemmas.Bool.{eqb-true, eqb-false}
 pub use Rattle.std.proofs.lemmas.Bool.Decides.{nat_tests}
 pub use Rattle.std.specs.List.{sum}
-pub use Rattle.std.specs.Prelude.{◌≡◌, ℕ, ◌+◌, ◌-◌, ◌*◌, ◌/◌, ◌%◌, ◌^◌, ◌<◌, ◌≤◌, ◌==◌, true, max, if◌then◌else◌, List, [], slice_index, suc, Bool, false, cond, zero, length}
+pub use Rattle.std.specs.Prelude.{◌≤◌, ◌==◌, true, length}

@@ -1,5 +1,6 @@
 -- What the passes of a reader-preferring lock count, the model that it plays, and that the counts follow the run.
-use Rattle.running_tallies.specs.Names.{◌≡◌, ℕ, ◌-◌, ◌^◌, ◌<◌, ◌==◌, true, if◌then◌else◌, List, Act, Call, Event, Table, holds_of, reads_in, writes_in, u64_arithmetic, Model, IsPast, sym, subst, ◌∙◌, ◌∷◌, Option, arith, eqb-true, word_in, word_after, carried_out, Word, HoldKind, Hold, PendingCall, quiet_holds, StaysOnNoWord, GoesOnByActs, nat_tests, eqb-false}
+use Rattle.std.specs.Prelude.{◌≡◌, ℕ, ◌-◌, ◌^◌, ◌<◌, ◌==◌, true, if◌then◌else◌, List, ◌∷◌, Option}
+use Rattle.running_tallies.specs.Names.{Act, Call, Event, Table, holds_of, reads_in, writes_in, u64_arithmetic, Model, IsPast, sym, subst, ◌∙◌, arith, eqb-true, word_in, word_after, carried_out, Word, HoldKind, Hold, PendingCall, quiet_holds, StaysOnNoWord, GoesOnByActs, nat_tests, eqb-false}
 use Rattle.running_tallies.specs.declared.held.Held.{Held}
 use Rattle.running_tallies.specs.declared.held.Held.TheVariants.{Free, Writing}
 use Rattle.running_tallies.specs.Held.{both_held, read_holds, write_holds, reader_in, reader_out, Locks, same_nothing}

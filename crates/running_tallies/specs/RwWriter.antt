@@ -1,5 +1,6 @@
 -- What the passes of a writer-preferring lock count, the model that it plays, and that the counts follow the run.
-use Rattle.running_tallies.specs.Names.{◌≡◌, ℕ, ◌+◌, ◌-◌, ◌*◌, ◌^◌, ◌<◌, ◌≤◌, ◌==◌, inl, inr, true, false, if◌then◌else◌, List, Act, Call, Event, Word, HoldKind, grants_in, u64_arithmetic, Model, IsPast, ◌%◌, Bool, refl, sym, subst, ◌∙◌, [], ◌∷◌, Option, Some, arith, eqb-true, eqb-false, nat_tests, word_in, word_after, hold_of, carried_out, Intent, Hold, PendingCall, call_of, holds_of, reads_in, writes_in, IsTally, StaysOnNoWord, GoesOnByActs, grants_by, same_grants, next_grants}
+use Rattle.std.specs.Prelude.{◌≡◌, ℕ, ◌+◌, ◌-◌, ◌*◌, ◌^◌, ◌<◌, ◌≤◌, ◌==◌, true, false, if◌then◌else◌, List, ◌%◌, Bool, [], ◌∷◌, Option, Some}
+use Rattle.running_tallies.specs.Names.{inl, inr, Act, Call, Event, Word, HoldKind, grants_in, u64_arithmetic, Model, IsPast, refl, sym, subst, ◌∙◌, arith, eqb-true, eqb-false, nat_tests, word_in, word_after, hold_of, carried_out, Intent, Hold, PendingCall, call_of, holds_of, reads_in, writes_in, IsTally, StaysOnNoWord, GoesOnByActs, grants_by, same_grants, next_grants}
 use Rattle.running_passes.specs.declared.part.Sights.{Sights}
 use Rattle.running_passes.specs.Sights.{seen, seen_instead, stale}
 use Rattle.running_tallies.specs.declared.held.Held.TheVariants.{Writing}

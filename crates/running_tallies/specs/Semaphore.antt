@@ -1,5 +1,6 @@
 -- What the passes of a semaphore count, the model that it plays, and that the counts follow the run.
-use Rattle.running_tallies.specs.Names.{◌≡◌, ℕ, ◌+◌, ◌-◌, ◌%◌, ◌^◌, true, List, Word, Call, Act, Event, arith, u64_arithmetic, Model, IsPast, pairs_add_up, IsTally, StaysOnNoWord, GoesOnByActs, refl, [], nat_tests, eqb-true, eqb-false}
+use Rattle.std.specs.Prelude.{◌≡◌, ℕ, ◌+◌, ◌-◌, ◌%◌, ◌^◌, true, List, []}
+use Rattle.running_tallies.specs.Names.{Word, Call, Act, Event, arith, u64_arithmetic, Model, IsPast, pairs_add_up, IsTally, StaysOnNoWord, GoesOnByActs, refl, nat_tests, eqb-true, eqb-false}
 use Rattle.running_tallies.specs.declared.semaphore.Permits.{Permits}
 use Rattle.model_semaphore.specs.declared.SemaphorePlace.{SemaphorePlace}
 use Rattle.model_semaphore.specs.Table.{semaphore_table}

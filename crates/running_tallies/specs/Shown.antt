@@ -1,5 +1,5 @@
 -- Which word of which object closures see.
-use Rattle.running_tallies.specs.Names.{◌≡◌, ℕ}
+use Rattle.std.specs.Prelude.{◌≡◌, ℕ}
 use Rattle.running_passes.specs.declared.words.Word.{Word}
 use Rattle.atomic_table.specs.Seated.{TableId}
 

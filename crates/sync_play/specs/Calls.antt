@@ -1,5 +1,6 @@
 -- The calls of a text are those of the model: each has its name there, and what is printed of a call begins that call.
-use Rattle.sync_play.specs.Names.{◌≡◌, true, Ok, is_some, Call, Input, Object, Arithmetic, CallValues, has_call, Task, name_of, calls_of, named, values_written, task_of, Numerals, meaning_of}
+use Rattle.std.specs.Prelude.{◌≡◌, true, Ok, is_some}
+use Rattle.sync_play.specs.Names.{Call, Input, Object, Arithmetic, CallValues, has_call, Task, name_of, calls_of, named, values_written, task_of, Numerals, meaning_of}
 use Rattle.text_lines.specs.declared.value_type.ValueType.{ValueType}
 
 -- each call that an object has is found by its name among the calls of its texts

@@ -1,5 +1,6 @@
 -- A text as a run: its inputs, line by line, and their events.
-use Rattle.sync_play.specs.Names.{◌≡◌, ℕ, ◌+◌, ◌≤◌, true, false, List, [], ◌∷◌, ◌++◌, length, Option, Some, None, Ok, Err, ◌⊎◌, codes, Event, Input, Object, StepFault, Arithmetic, goes_on, fault_of, after, IsRun, FaultyLine, LineFault, Command, Task, Header, command_of, line_fault_of, header_of, lines_of, words_of, Numerals, values_in}
+use Rattle.std.specs.Prelude.{◌≡◌, ℕ, ◌+◌, ◌≤◌, true, false, List, [], ◌∷◌, ◌++◌, length, Option, Some, None, Ok, Err, ◌⊎◌, codes}
+use Rattle.sync_play.specs.Names.{Event, Input, Object, StepFault, Arithmetic, goes_on, fault_of, after, IsRun, FaultyLine, LineFault, Command, Task, Header, command_of, line_fault_of, header_of, lines_of, words_of, Numerals, values_in}
 use Rattle.sync_play.specs.Player.{steps_of}
 use Rattle.sync_play.specs.Print.{printed, last_line}
 use Rattle.sync_play.specs.Text.{output_of}

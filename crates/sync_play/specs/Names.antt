@@ -1,7 +1,7 @@
 -- What this crate reads of others.
 pub use Rattle.std.specs.Fmt.{decimal}
 pub use Rattle.std.specs.Io.KnownBytes.{Appends, Consumes, IsAtEnd}
-pub use Rattle.std.specs.Prelude.{◌≡◌, true, Ok, is_some, ℕ, ◌+◌, ◌≤◌, false, List, [], ◌∷◌, ◌++◌, length, Option, Some, None, Err, ◌⊎◌, codes, zero, suc, ◌-◌, if◌then◌else◌, Result, ◌^◌, min, take, ◌*◌, replicate, map, string_bytes}
+pub use Rattle.std.specs.Prelude.{ℕ, codes, replicate, string_bytes}
 pub use Rattle.model_events.specs.Exports.{Arithmetic, IsValue, CallValues, Move, InputValues, failures_in, call_of, hold_of, after, goes_on}
 pub use Rattle.model_events.specs.declared.{event.Act.Act, event.Answer.Answer, event.Call.Call, event.Event.Event, event.Input.Input, event.Object.Object, event.StepFault.StepFault, event.Then.Then, event.Wake.Wake, event.Word.Word}
 pub use Rattle.text_lines.specs.Call.{name_of, named}

@@ -1,5 +1,6 @@
 -- The events that a command gives after the events so far, or the first fault.
-use Rattle.sync_play.specs.Names.{ℕ, zero, suc, ◌-◌, if◌then◌else◌, List, [], ◌∷◌, Option, Some, None, Result, Ok, Err, Event, Input, Object, StepFault, Arithmetic, Move, goes_on, Stride, fault_of, move_of, Command, Task, LineFault, ◌>>=◌, line_fault_of}
+use Rattle.std.specs.Prelude.{ℕ, zero, suc, ◌-◌, if◌then◌else◌, List, [], ◌∷◌, Option, Some, None, Result, Ok, Err}
+use Rattle.sync_play.specs.Names.{Event, Input, Object, StepFault, Arithmetic, Move, goes_on, Stride, fault_of, move_of, Command, Task, LineFault, ◌>>=◌, line_fault_of}
 
 abbrev pub event_by : {T : Type 0} → ℕ → Option (Move T) → Result (Event T) LineFault
 event_by party (Some move) = Ok (record { party = party; act = move.act; «then» = move.outcome })

@@ -1,5 +1,6 @@
 -- What an event prints, and the last line.
-use Rattle.sync_play.specs.Names.{ℕ, ◌+◌, ◌-◌, ◌^◌, min, true, false, List, [], ◌∷◌, ◌++◌, codes, decimal, Word, Wake, Act, Answer, Then, Event, Object, Arithmetic, failures_in, word_in, Numerals}
+use Rattle.std.specs.Prelude.{ℕ, ◌+◌, ◌-◌, ◌^◌, min, true, false, List, [], ◌∷◌, ◌++◌, codes}
+use Rattle.sync_play.specs.Names.{decimal, Word, Wake, Act, Answer, Then, Event, Object, Arithmetic, failures_in, word_in, Numerals}
 use Rattle.std.specs.List.{flat_map}
 
 -- how a line of a party begins: with its number, which is counted from 1

@@ -1,5 +1,6 @@
 -- What became of a run of the program.
-use Rattle.sync_play.specs.Names.{◌≡◌, ℕ, List, take, Option, Ok, Err, Appends, Consumes, IsAtEnd, FaultyLine}
+use Rattle.std.specs.Prelude.{◌≡◌, ℕ, List, take, Option, Ok, Err}
+use Rattle.sync_play.specs.Names.{Appends, Consumes, IsAtEnd, FaultyLine}
 use Rattle.text_lines.specs.declared.fault.RunFault.{RunFault}
 use Rattle.sync_play.specs.Text.{output_of}
 

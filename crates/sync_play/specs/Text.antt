@@ -1,5 +1,6 @@
 -- What a text prints, or the fault of its first faulty line.
-use Rattle.sync_play.specs.Names.{ℕ, ◌+◌, List, [], ◌∷◌, ◌++◌, Option, Some, None, Result, Ok, Err, Event, Object, Arithmetic, after, Command, FaultyLine, LineFault, command_of, ◌>>=◌, at_line, header_of, lines_of, words_of, Numerals, values_in}
+use Rattle.std.specs.Prelude.{ℕ, ◌+◌, List, [], ◌∷◌, ◌++◌, Option, Some, None, Result, Ok, Err}
+use Rattle.sync_play.specs.Names.{Event, Object, Arithmetic, after, Command, FaultyLine, LineFault, command_of, ◌>>=◌, at_line, header_of, lines_of, words_of, Numerals, values_in}
 use Rattle.sync_play.specs.Player.{command_events}
 use Rattle.sync_play.specs.Print.{printed, last_line}
 

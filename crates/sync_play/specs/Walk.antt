@@ -1,5 +1,6 @@
 -- A text as a walk: its steps, each with the line that asked for it, up to its end or its first fault.
-use Rattle.sync_play.specs.Names.{◌≡◌, ℕ, zero, suc, ◌+◌, ◌*◌, ◌^◌, length, replicate, if◌then◌else◌, List, [], ◌∷◌, Option, Some, None, Result, Ok, Err, Event, Input, Object, Arithmetic, after, goes_on, EventStride, Configuration, StandsAt, Command, Task, LineFault, Header, command_of, ◌>>=◌, header_of, lines_of, words_of, Numerals, FaultyLine}
+use Rattle.std.specs.Prelude.{◌≡◌, ℕ, zero, suc, ◌+◌, ◌*◌, ◌^◌, length, replicate, if◌then◌else◌, List, [], ◌∷◌, Option, Some, None, Result, Ok, Err}
+use Rattle.sync_play.specs.Names.{Event, Input, Object, Arithmetic, after, goes_on, EventStride, Configuration, StandsAt, Command, Task, LineFault, Header, command_of, ◌>>=◌, header_of, lines_of, words_of, Numerals, FaultyLine}
 use Rattle.sync_play.specs.Player.{event_of, steps_left}
 use Rattle.sync_play.specs.declared.walk.Step.{Step}
 use Rattle.sync_play.specs.declared.walk.Stride.{Stride}

@@ -1,5 +1,6 @@
 -- Walks and outputs: what a text prints is what its walk's events print, and both have the same fault.
-use Rattle.sync_play.specs.Names.{◌≡◌, ℕ, List, [], ◌++◌, map, Option, Some, None, Result, Ok, Err, Event, Object, Arithmetic, after, Configuration, StandsAt, Header, TextFault, IsFaultOf, Numerals, FaultyLine}
+use Rattle.std.specs.Prelude.{◌≡◌, ℕ, List, [], ◌++◌, map, Option, Some, None, Result, Ok, Err}
+use Rattle.sync_play.specs.Names.{Event, Object, Arithmetic, after, Configuration, StandsAt, Header, TextFault, IsFaultOf, Numerals, FaultyLine}
 use Rattle.sync_play.specs.Print.{printed, last_line}
 use Rattle.sync_play.specs.Text.{typed_output}
 use Rattle.sync_play.specs.declared.walk.Step.{Step}

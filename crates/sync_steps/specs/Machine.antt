@@ -1,5 +1,6 @@
 -- What contracts see of a machine, when a run stands at it, and what its calls promise.
-use Rattle.sync_steps.specs.Names.{◌≡◌, ℕ, ◌-◌, ◌^◌, ◌<◌, ◌≤◌, min, List, ◌∷◌, length, take, Option, Some, None, slice_get, false, ForSome, Event, Input, Object, StepFault, Word, HoldKind, Arithmetic, call_of, hold_of, failures_in, after, AtEveryPrefix, word_at}
+use Rattle.std.specs.Prelude.{◌≡◌, ℕ, ◌-◌, ◌^◌, ◌<◌, ◌≤◌, min, List, ◌∷◌, length, take, Option, Some, None, slice_get, false}
+use Rattle.sync_steps.specs.Names.{ForSome, Event, Input, Object, StepFault, Word, HoldKind, Arithmetic, call_of, hold_of, failures_in, after, AtEveryPrefix, word_at}
 use Rattle.model_events.specs.declared.words.Words.{Words}
 use Rattle.sync_steps.specs.declared.steps.fault.PlayFault.{PlayFault}
 use Rattle.sync_steps.specs.declared.steps.place.Party.{Party}

@@ -1,5 +1,6 @@
 -- What each object is: its places and its table of steps, its law, what it may be opened with, and the words and the calls that it has.
-use Rattle.sync_steps.specs.Names.{ℕ, List, ◌<◌, ◌^◌, Bool, true, false, Call, Event, Object, Word, Arithmetic, IsValue, IsClosed, Table}
+use Rattle.std.specs.Prelude.{ℕ, List, ◌<◌, ◌^◌, Bool, true, false}
+use Rattle.sync_steps.specs.Names.{Call, Event, Object, Word, Arithmetic, IsValue, IsClosed, Table}
 use Rattle.model_events.specs.Laws.{Keeps}
 use Rattle.model_events.specs.declared.event.Wake.{Wake}
 pub use Rattle.model_mutex.specs.declared.MutexPlace.{MutexPlace}

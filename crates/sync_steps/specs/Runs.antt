@@ -1,5 +1,6 @@
 -- Runs of an object: those of its table, where what it is opened with is a value of its type.
-use Rattle.sync_steps.specs.Names.{ℕ, List, Option, Event, Input, Object, StepFault, Word, Arithmetic, Hold, Move}
+use Rattle.std.specs.Prelude.{ℕ, List, Option}
+use Rattle.sync_steps.specs.Names.{Event, Input, Object, StepFault, Word, Arithmetic, Hold, Move}
 use Rattle.model_events.specs.Past as pasts
 use Rattle.model_events.specs.Moves as moves
 use Rattle.model_events.specs.Runs as runs

@@ -1,6 +1,7 @@
 -- The counter of the tests: its word is what all passes have added, less what they took away again.
 use Rattle.std.proofs.Common.{◌≡◌, ℕ, ◌+◌, ◌%◌, ◌^◌, List, length, arith}
-use Rattle.test_running.specs.Names.{slice_index, View, IsTally, looked, wrote}
+use Rattle.std.specs.Prelude.{slice_index}
+use Rattle.test_running.specs.Names.{View, IsTally, looked, wrote}
 use mathlib.Core.Option as maybe
 use Rattle.running_passes.specs.Parts.{IsWhole}
 

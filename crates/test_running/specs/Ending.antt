@@ -1,5 +1,6 @@
 -- Another model of the tests: a call that looks, ends its closure, and stores 7. Its places are what the steps are to do.
-use Rattle.test_running.specs.Names.{ℕ, false, Option, Some, None, Word, Call, Answer, Intent, After, u64_arithmetic, Table, Model}
+use Rattle.std.specs.Prelude.{ℕ, false, Option, Some, None}
+use Rattle.test_running.specs.Names.{Word, Call, Answer, Intent, After, u64_arithmetic, Table, Model}
 use Rattle.test_running.specs.Staging.{KeepsNothing}
 
 abbrev pub ending_begins : Call ℕ → Option (Intent ℕ)

@@ -6,7 +6,6 @@ pub use Rattle.running_model.specs.Models.{Model}
 pub use Rattle.running_model.specs.Passes.{parties_of}
 pub use Rattle.running_model.specs.Plays.{Beginning, Aside, ComesBy, IsAt, MayStep, HasCalled}
 pub use Rattle.running_model.specs.Slots.{Slot, Parties, all_of}
-pub use Rattle.std.specs.Prelude.{slice_index, ℕ, false, Option, Some, None, unwrap_or, List}
 pub use Rattle.model_events.specs.Integers.{u64_arithmetic}
 pub use Rattle.model_events.specs.Tables.{Table}
 pub use Rattle.model_events.specs.declared.event.Answer.{Answer}

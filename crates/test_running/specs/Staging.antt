@@ -1,5 +1,6 @@
 -- The model of the tests: a word of which each call makes one step. Its places are what the steps are to do.
-use Rattle.test_running.specs.Names.{ℕ, false, unwrap_or, List, Option, Some, None, Word, Call, Answer, Intent, After, u64_arithmetic, Table, Model, IsTally}
+use Rattle.std.specs.Prelude.{ℕ, false, unwrap_or, List, Option, Some, None}
+use Rattle.test_running.specs.Names.{Word, Call, Answer, Intent, After, u64_arithmetic, Table, Model, IsTally}
 use Rattle.model_events.specs.declared.event.Event.{Event}
 use Rattle.std.proofs.Common.{refl}
 

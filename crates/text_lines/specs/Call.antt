@@ -1,5 +1,6 @@
 -- What calls are called in a text.
-use Rattle.text_lines.specs.Names.{ℕ, if◌then◌else◌, List, [], ◌∷◌, Option, Some, None, codes, bytes_eq, Call}
+use Rattle.std.specs.Prelude.{ℕ, if◌then◌else◌, List, [], ◌∷◌, Option, Some, None, codes}
+use Rattle.text_lines.specs.Names.{bytes_eq, Call}
 
 -- as in the Rust crate, but that `wait` is `start_wait`, since `wait` is the closure's answer
 abbrev pub name_of : {T : Type 0} → Call T → List ℕ

@@ -1,5 +1,6 @@
 -- What a line after the first asks, and of whom.
-use Rattle.text_lines.specs.Names.{ℕ, zero, suc, ◌-◌, ◌^◌, List, [], ◌∷◌, Option, Some, None, Result, Ok, Err, codes, decimal, Call, Input, Object}
+use Rattle.std.specs.Prelude.{ℕ, zero, suc, ◌-◌, ◌^◌, List, [], ◌∷◌, Option, Some, None, Result, Ok, Err, codes}
+use Rattle.text_lines.specs.Names.{decimal, Call, Input, Object}
 use Rattle.model_events.specs.declared.WaitAction.{WaitAction}
 use Rattle.text_lines.specs.declared.command.Command.{Command}
 use Rattle.text_lines.specs.declared.command.Form.{Form}

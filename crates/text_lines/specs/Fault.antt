@@ -1,5 +1,6 @@
 -- What is wrong with a text, how a step that may fail goes on, and what became of a run of the program.
-use Rattle.text_lines.specs.Names.{◌≡◌, ℕ, List, ◌++◌, Result, Ok, Err, codes, decimal}
+use Rattle.std.specs.Prelude.{◌≡◌, ℕ, List, ◌++◌, Result, Ok, Err, codes}
+use Rattle.text_lines.specs.Names.{decimal}
 use Rattle.model_events.specs.declared.event.StepFault.{StepFault}
 use Rattle.text_lines.specs.declared.fault.FaultyLine.{FaultyLine}
 use Rattle.text_lines.specs.declared.fault.LineFault.{LineFault}

@@ -1,5 +1,6 @@
 -- What the first line names: the object and its parties.
-use Rattle.text_lines.specs.Names.{ℕ, List, [], ◌∷◌, Option, Some, None, Result, Err, Object}
+use Rattle.std.specs.Prelude.{ℕ, List, [], ◌∷◌, Option, Some, None, Result, Err}
+use Rattle.text_lines.specs.Names.{Object}
 use Rattle.text_lines.specs.declared.fault.LineFault.{LineFault}
 use Rattle.text_lines.specs.declared.header.Header.{Header}
 use Rattle.text_lines.specs.Numerals.{Numerals}

@@ -1,5 +1,6 @@
 -- The lines of a text, the words of a line, and the numbers that words write.
-use Rattle.text_lines.specs.Names.{ℕ, ℤ, pos, neg_ℤ, ◌+◌, ◌*◌, ◌-◌, Bool, true, false, ◌&&◌, ◌||◌, ◌==◌, nat_le, nat_lt, if◌then◌else◌, List, [], ◌∷◌, Option, Some, None, Result, Ok, Err, is_ascii_digit, bytes_eq, fits_signed}
+use Rattle.std.specs.Prelude.{ℕ, ℤ, pos, neg_ℤ, ◌+◌, ◌*◌, ◌-◌, Bool, true, false, ◌&&◌, ◌||◌, ◌==◌, nat_le, nat_lt, if◌then◌else◌, List, [], ◌∷◌, Option, Some, None, Result, Ok, Err}
+use Rattle.text_lines.specs.Names.{is_ascii_digit, bytes_eq, fits_signed}
 use Rattle.text_lines.specs.declared.fault.LineFault.{LineFault}
 use Rattle.text_lines.specs.Fault.{◌>>=◌}
 use denote.Ref.{Bor}

@@ -3,7 +3,8 @@ use Rattle.std.proofs.Common.{◌≡◌, ap, ◌∙◌, ℕ, suc, ◌+◌, ◌*�
 use Rattle.std.proofs.lemmas.Bool.{eqb-true, eqb-false}
 use Rattle.std.proofs.lemmas.Bool.Decides.{nat_tests}
 use Rattle.std.proofs.lemmas.Fmt.{decimal_by_steps_wide}
-use Rattle.text_lines.specs.Names.{ℤ, pos, negsuc, is_ascii_digit, decimal, signed_decimal, IsValue, span, high_bits, joined, arithmetic_of, unsigned, signed, width_of, fits_signed}
+use Rattle.std.specs.Prelude.{ℤ, pos, negsuc}
+use Rattle.text_lines.specs.Names.{is_ascii_digit, decimal, signed_decimal, IsValue, span, high_bits, joined, arithmetic_of, unsigned, signed, width_of, fits_signed}
 use Rattle.std.specs.Int.RustNames.{FitsSigned}
 use Rattle.std.specs.Int.Signed.{mag}
 use Rattle.model_events.specs.IntegerLaws.{unsigned_value, signed_value}

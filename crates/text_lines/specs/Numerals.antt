@@ -1,5 +1,6 @@
 -- How a text writes the values of an integer type.
-use Rattle.text_lines.specs.Names.{◌≡◌, ℕ, ℤ, ◌-◌, Bool, true, false, List, Result, Ok, codes, decimal, signed_decimal, Arithmetic, IsValue, span}
+use Rattle.std.specs.Prelude.{◌≡◌, ℕ, ℤ, ◌-◌, Bool, true, false, List, Result, Ok, codes}
+use Rattle.text_lines.specs.Names.{decimal, signed_decimal, Arithmetic, IsValue, span}
 use Rattle.text_lines.specs.declared.fault.LineFault.{LineFault}
 use Rattle.text_lines.specs.Lexer.{number_within, signed_within}
 

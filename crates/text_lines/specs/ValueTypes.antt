@@ -1,5 +1,6 @@
 -- The integer type of a text's values: that of the atomic which its first line names.
-use Rattle.text_lines.specs.Names.{ℕ, ℤ, false, true, if◌then◌else◌, List, [], ◌∷◌, Option, bytes_eq, Arithmetic, u64_arithmetic, u128_arithmetic, i64_arithmetic, i128_arithmetic, Object}
+use Rattle.std.specs.Prelude.{ℕ, ℤ, false, true, if◌then◌else◌, List, [], ◌∷◌, Option}
+use Rattle.text_lines.specs.Names.{bytes_eq, Arithmetic, u64_arithmetic, u128_arithmetic, i64_arithmetic, i128_arithmetic, Object}
 use Rattle.text_lines.specs.declared.value_type.ValueType.{ValueType}
 use Rattle.text_lines.specs.Lexer.{lines_of, words_of}
 use Rattle.text_lines.specs.Numerals.{Numerals, ReadsValues, ReadsItsOwn, u64_numerals, u128_numerals, i64_numerals, i128_numerals}

@@ -1,5 +1,6 @@
 -- What a step's row says, cell by cell.
-use Rattle.text_trace.specs.Names.{ℕ, zero, suc, ◌+◌, true, false, List, [], ◌∷◌, ◌++◌, Option, Some, None, codes, string_bytes, decimal, WaitAction, Act, Event, Object, Wake, Word, HoldKind, Arithmetic, hold_of, table_of, word_in, Header, Numerals, answer_words, further_words, Step}
+use Rattle.std.specs.Prelude.{ℕ, zero, suc, ◌+◌, true, false, List, [], ◌∷◌, ◌++◌, Option, Some, None, codes, string_bytes}
+use Rattle.text_trace.specs.Names.{decimal, WaitAction, Act, Event, Object, Wake, Word, HoldKind, Arithmetic, hold_of, table_of, word_in, Header, Numerals, answer_words, further_words, Step}
 use Rattle.model_events.specs.declared.{event.Call.Call, event.Then.Then}
 use Rattle.text_lines.specs.Call.{name_of}
 use Rattle.text_lines.specs.Command.{values_written}

@@ -1,5 +1,6 @@
 -- The parts in which a row is printed. What it says is stated in `Cells`, without them.
-use Rattle.text_trace.specs.Names.{◌≡◌, ℕ, Bool, true, false, List, [], ◌++◌, Some, None, codes, string_bytes, decimal, WaitAction, Act, Wake, Step, Numerals}
+use Rattle.std.specs.Prelude.{◌≡◌, ℕ, Bool, true, false, List, [], ◌++◌, Some, None, codes, string_bytes}
+use Rattle.text_trace.specs.Names.{decimal, WaitAction, Act, Wake, Step, Numerals}
 use Rattle.text_trace.specs.declared.cells.Cells.{Cells}
 use Rattle.text_trace.specs.Cells.{verb_words, call_words}
 

@@ -1,5 +1,6 @@
 -- The rows of a trace: steps that read the same, one right after the other, are folded into one.
-use Rattle.text_trace.specs.Names.{ℕ, zero, suc, ◌+◌, ◌-◌, ◌^◌, min, Bool, true, false, ◌&&◌, List, [], ◌∷◌, map, Option, Some, None, bytes_eq}
+use Rattle.std.specs.Prelude.{ℕ, zero, suc, ◌+◌, ◌-◌, ◌^◌, min, Bool, true, false, ◌&&◌, List, [], ◌∷◌, map, Option, Some, None}
+use Rattle.text_trace.specs.Names.{bytes_eq}
 use Rattle.text_trace.specs.declared.rows.Row.{Row}
 use Rattle.text_trace.specs.Cells.{Texts, texts_of}
 

@@ -1,5 +1,6 @@
 -- What became of a run of the program.
-use Rattle.text_trace.specs.Names.{◌≡◌, ℕ, List, take, Option, Some, FaultyLine}
+use Rattle.std.specs.Prelude.{◌≡◌, ℕ, List, take, Option, Some}
+use Rattle.text_trace.specs.Names.{FaultyLine}
 use Rattle.std.specs.Io.KnownBytes.{Appends}
 use Rattle.text_lines.specs.declared.fault.RunFault.{RunFault}
 use Rattle.sync_play.specs.Run.{HasRead}

@@ -1,5 +1,6 @@
 -- The table of rows: columns as wide as their widest cells, and two blanks between them.
-use Rattle.text_trace.specs.Names.{ℕ, ◌+◌, ◌-◌, ◌==◌, max, if◌then◌else◌, List, [], ◌∷◌, ◌++◌, length, replicate, codes, decimal, flat_map}
+use Rattle.std.specs.Prelude.{ℕ, ◌+◌, ◌-◌, ◌==◌, max, if◌then◌else◌, List, [], ◌∷◌, ◌++◌, length, replicate, codes}
+use Rattle.text_trace.specs.Names.{decimal, flat_map}
 use Rattle.text_trace.specs.declared.table.Line.{Line}
 use Rattle.text_trace.specs.declared.table.Widths.{Widths}
 use Rattle.text_trace.specs.Rows.{Entry}

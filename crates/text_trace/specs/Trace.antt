@@ -1,5 +1,6 @@
 -- The trace of a text: what is written of it, and its first fault.
-use Rattle.text_trace.specs.Names.{◌≡◌, ℕ, List, [], ◌∷◌, Option, Some, None, Result, Ok, Err, Event, Arithmetic, after, Configuration, StandsAt, Header, lines_of, Numerals, FaultyLine, Step, events_in, Walk, lines_walk, opened}
+use Rattle.std.specs.Prelude.{◌≡◌, ℕ, List, [], ◌∷◌, Option, Some, None, Result, Ok, Err}
+use Rattle.text_trace.specs.Names.{Event, Arithmetic, after, Configuration, StandsAt, Header, lines_of, Numerals, FaultyLine, Step, events_in, Walk, lines_walk, opened}
 use Rattle.text_lines.specs.ValueTypes.{values_in}
 use Rattle.text_trace.specs.declared.rows.Row.{Row}
 use Rattle.text_trace.specs.declared.trace.Rows.{Rows}

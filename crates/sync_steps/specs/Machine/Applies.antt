@@ -1,5 +1,6 @@
 -- What a machine changes at a turn of a party, and at none.
-use Rattle.sync_steps.specs.Names.{◌≡◌, ℕ, ◌+◌, ◌-◌, ◌^◌, min, slice_get, slice_set, Some, Ok, Err, Act, Event, Input, StepFault, Word, Arithmetic, word_after, failures_by, event, word_at}
+use Rattle.std.specs.Prelude.{◌≡◌, ℕ, ◌+◌, ◌-◌, ◌^◌, min, slice_get, slice_set, Some, Ok, Err}
+use Rattle.sync_steps.specs.Names.{Act, Event, Input, StepFault, Word, Arithmetic, word_after, failures_by, event, word_at}
 use Rattle.sync_steps.specs.declared.steps.place.Party.{Party}
 use Rattle.sync_steps.specs.Machine.Turns.{Turn}
 use Rattle.sync_steps.specs.Machine.{Configuration}

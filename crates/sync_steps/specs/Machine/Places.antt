@@ -1,5 +1,6 @@
 -- Where a machine's parties are: the code's places, as places of the object's table, and how often a step at each spins.
-use Rattle.sync_steps.specs.Names.{◌≡◌, ℕ, Bool, List, [], ◌∷◌, Option, Some, None, WaitAction, Call, Event, Object, Then, Word, HoldKind, After, Intent, Arithmetic, PendingCall, call_of, latest_outcome, stage_of, seen_by, within, is_sight, last_of, Table, ◌+◌, ◌-◌, ◌^◌, ◌==◌, min, unwrap_or, Patience, if◌then◌else◌}
+use Rattle.std.specs.Prelude.{◌≡◌, ℕ, Bool, List, [], ◌∷◌, Option, Some, None, ◌+◌, ◌-◌, ◌^◌, ◌==◌, min, unwrap_or, if◌then◌else◌}
+use Rattle.sync_steps.specs.Names.{WaitAction, Call, Event, Object, Then, Word, HoldKind, After, Intent, Arithmetic, PendingCall, call_of, latest_outcome, stage_of, seen_by, within, is_sight, last_of, Table, Patience}
 use Rattle.sync_steps.specs.declared.steps.place.Closure.{Closure}
 use Rattle.sync_steps.specs.declared.steps.place.Doing.{Doing}
 use Rattle.sync_steps.specs.declared.steps.place.Party.{Party}

@@ -1,5 +1,6 @@
 -- Strides: equal events in a row, as a call makes them that spins.
-use Rattle.sync_steps.specs.Names.{◌≡◌, ℕ, ◌+◌, ◌*◌, ◌-◌, ◌^◌, ◌<◌, ◌≤◌, ◌==◌, ◌&&◌, not, min, Bool, true, false, List, replicate, slice_get, slice_set, Option, Some, None, Act, Event, Input, Then, Word, Arithmetic, event, failures_by, carried_out, value_told, word_at}
+use Rattle.std.specs.Prelude.{◌≡◌, ℕ, ◌+◌, ◌*◌, ◌-◌, ◌^◌, ◌<◌, ◌≤◌, ◌==◌, ◌&&◌, not, min, Bool, true, false, List, replicate, slice_get, slice_set, Option, Some, None}
+use Rattle.sync_steps.specs.Names.{Act, Event, Input, Then, Word, Arithmetic, event, failures_by, carried_out, value_told, word_at}
 use Rattle.sync_steps.specs.declared.steps.machine.stride.Stride.{Stride}
 use Rattle.sync_steps.specs.declared.steps.place.Doing.{Doing}
 use Rattle.sync_steps.specs.declared.steps.place.Party.{Party}

@@ -1,5 +1,6 @@
 -- What one input makes a party of a machine do: what the functions of `src/steps/turn.rt` answer.
-use Rattle.sync_steps.specs.Names.{◌≡◌, ℕ, zero, Bool, true, false, ◌&&◌, is_some, is_none, Option, Some, None, Result, Ok, Err, WaitAction, Act, Call, Input, Object, StepFault, Then, Word, HoldKind, After, Arithmetic, carried_out, value_told, outcome_of, is_release, hold_or, is_locking, if◌then◌else◌}
+use Rattle.std.specs.Prelude.{◌≡◌, ℕ, zero, Bool, true, false, ◌&&◌, is_some, is_none, Option, Some, None, Result, Ok, Err, if◌then◌else◌}
+use Rattle.sync_steps.specs.Names.{WaitAction, Act, Call, Input, Object, StepFault, Then, Word, HoldKind, After, Arithmetic, carried_out, value_told, outcome_of, is_release, hold_or, is_locking}
 use Rattle.sync_steps.specs.declared.steps.place.Closure.{Closure}
 use Rattle.sync_steps.specs.declared.steps.place.Doing.{Doing}
 use Rattle.sync_steps.specs.declared.steps.place.Party.{Party}
