@@ -1,0 +1,61 @@
+-- What contracts see of a handle: the value that it is of, and what a call changes in its pass.
+use Rattle.std.specs.Prelude.{◌≡◌, ℕ, ◌+◌, ◌≤◌, Some, None}
+use Rattle.model_events.specs.declared.event.Call.TheVariants as calls
+use Rattle.model_events.specs.declared.event.Answer.TheVariants as answers
+use Rattle.running_guarded.specs.declared.pass.GuardedPass.{GuardedPass}
+use Rattle.running_guarded.specs.GuardedRule.{MutexView}
+use Rattle.model_events.specs.declared.hold.HoldKind.TheVariants as kinds
+use Rattle.running_spin_lock.specs.ValueSteps.{Locks, Lets}
+use Rattle.running_guarded.specs.GuardedSteps.{SeesLockedOften, PlaysBoth, PlaysUnlock, Plays}
+use Rattle.running_guarded.specs.GuardedShown as passes
+use Rattle.running_passes.specs.declared.part.Part.{Part}
+use Rattle.sleeping_guarded.specs.declared.SleepingGuarded.{SleepingGuarded}
+use Rattle.sleeping_guarded.specs.declared.GuardedHandle.{GuardedHandle}
+
+-- the pass was granted once by a `Lock` of the model, and has let go again; nothing else changed but what was seen on the way
+pub record HasLockedOnce (p q : GuardedPass) : Type 0 where
+  pub granted : passes.HasLockedOnce p q
+  pub played : PlaysBoth (passes.view p) (passes.view q)
+
+-- the call was refused in 10001 tries of its own, and in one more at least once it had slept, or had looked at the clock
+pub record HasGivenUp (p q : GuardedPass) : Type 0 where
+  pub same : passes.IsSamePass p q
+  pub more : ℕ
+  pub some : 1 ≤ more
+  pub refused : SeesLockedOften (10001 + more) (passes.view p) (passes.view q)
+  pub played : Plays calls.Lock answers.Interrupted None (passes.view p) (passes.view q)
+
+-- the value was seen locked once
+pub record HasSeenLocked (p q : GuardedPass) : Type 0 where
+  pub refused : passes.HasSeenLocked p q
+  pub played : Plays calls.TryLock answers.Interrupted None (passes.view p) (passes.view q)
+
+-- it was free at the first exchange, and the pass has let go again
+pub record HasLockedAtOnce (p q : GuardedPass) : Type 0 where
+  pub within : MutexView
+  pub locked : Locks (passes.view p) within
+  pub came : Plays calls.TryLock answers.Success (Some kinds.Write) (passes.view p) within
+  pub same : passes.IsSamePass p q
+  pub unlocked : Lets within (passes.view q)
+  pub went : PlaysUnlock within (passes.view q)
+
+module _ {T A : Type 0} where
+  -- the pass is this value's
+  abbrev pub IsSleepingPass : SleepingGuarded T A → GuardedPass → Type 0
+  IsSleepingPass v p = passes.IsGuardedPass v.value p
+
+  -- the value that it is a handle of, and its pass
+  abbrev pub object_of : GuardedHandle T A → SleepingGuarded T A
+  object_of h = h.of.now
+
+  abbrev pub pass_of : GuardedHandle T A → GuardedPass
+  pass_of h = h.pass
+
+  -- which part of all passes that is
+  abbrev pub part_with : GuardedHandle T A → Part
+  part_with h = passes.part_of (pass_of h)
+
+  -- still a handle of the same value, and its pass has changed so
+  pub record PassHas (Changed : GuardedPass → GuardedPass → Type 0) (before after : GuardedHandle T A) : Type 0 where
+    pub object : object_of after ≡ object_of before
+    pub changed : Changed (pass_of before) (pass_of after)
