@@ -1,0 +1,66 @@
+-- What contracts see of a handle: the mutex that it is of, and what a call changes in its pass.
+use Rattle.std.specs.Prelude.{◌≡◌, Some, None}
+use Rattle.std.specs.Borrow.{Bor}
+use Rattle.std.specs.Fn.{Once, FnOnceReturns}
+use Rattle.model_events.specs.declared.event.Call.TheVariants as calls
+use Rattle.model_events.specs.declared.event.Answer.TheVariants as answers
+use Rattle.model_events.specs.declared.hold.HoldKind.TheVariants as kinds
+use Rattle.running_model.specs.Counts.{WasRefused}
+use Rattle.running_mutex.specs.MutexShown.{IsLocked, IsMutexPass, HasLocked, HasUnlocked, HasPlayedUnlock, MutexPass, HasEntered, HasSeenLocked as HasPassSeenLocked, HasPlayed}
+use Rattle.running_mutex.specs.declared.MutexHold.{MutexHold}
+use Rattle.running_passes.specs.declared.part.Part.{Part}
+use Rattle.running_passes.specs.Passes.{part_of}
+use Rattle.sleeping_mutex.specs.declared.SleepingMutex.{SleepingMutex}
+use Rattle.sleeping_mutex.specs.declared.MutexHandle.{MutexHandle}
+
+-- by what the closure promises of its calls, it gave this at some hold that it was shown
+pub record Acts {F X : Type 0} (g : Once F (Bor MutexHold × Unit {0}) X) (act : F) (given : X) : Type 0 where
+  pub shown : Bor MutexHold
+  pub says : FnOnceReturns g act (shown, tt) given
+
+-- The pass was granted by a `Lock` of the model and has let go again by an `Unlock`; nothing else changed but what was seen on the way.
+pub record HasLockedOnce (p q : MutexPass) : Type 0 where
+  pub within : MutexPass
+  pub entered : HasEntered p within
+  pub came : HasPlayed calls.Lock answers.Success (Some kinds.Write) p within
+  pub unlocked : HasUnlocked within q
+  pub went : HasPlayedUnlock within q
+
+-- so, at the first exchange
+pub record HasLockedAtOnce (p q : MutexPass) : Type 0 where
+  pub within : MutexPass
+  pub locked : HasLocked p within
+  pub came : HasPlayed calls.TryLock answers.Success (Some kinds.Write) p within
+  pub unlocked : HasUnlocked within q
+  pub went : HasPlayedUnlock within q
+
+-- the call was refused in 10001 tries of its own, and in one more at least once it had slept, or had looked at the clock
+pub record HasGivenUp (p q : MutexPass) : Type 0 where
+  pub refused : WasRefused IsLocked 10002 p q
+  pub played : HasPlayed calls.Lock answers.Interrupted None p q
+
+-- the mutex was seen locked once
+pub record HasSeenLocked (p q : MutexPass) : Type 0 where
+  pub refused : HasPassSeenLocked p q
+  pub played : HasPlayed calls.TryLock answers.Interrupted None p q
+
+module _ {A : Type 0} where
+  -- the pass is this mutex's
+  abbrev pub IsSleepingPass : SleepingMutex A → MutexPass → Type 0
+  IsSleepingPass m p = IsMutexPass m.mutex p
+
+  -- the mutex that it is a handle of, and its pass
+  abbrev pub object_of : MutexHandle A → SleepingMutex A
+  object_of h = h.of.now
+
+  abbrev pub pass_of : MutexHandle A → MutexPass
+  pass_of h = h.pass
+
+  -- which part of all passes that is
+  abbrev pub part_with : MutexHandle A → Part
+  part_with h = part_of (pass_of h)
+
+  -- still a handle of the same mutex, and its pass has changed so
+  pub record PassHas (Changed : MutexPass → MutexPass → Type 0) (before after : MutexHandle A) : Type 0 where
+    pub object : object_of after ≡ object_of before
+    pub changed : Changed (pass_of before) (pass_of after)
