@@ -9,6 +9,7 @@ use Rattle.running_spin_lock.specs.ValueSteps.{Locks, Lets}
 use Rattle.running_guarded.specs.GuardedSteps.{SeesLockedOften, PlaysBoth, PlaysUnlock, Plays}
 use Rattle.running_guarded.specs.GuardedShown as passes
 use Rattle.running_passes.specs.declared.part.Part.{Part}
+use Rattle.running_guarded.specs.declared.guarded.Guarded.{Guarded}
 use Rattle.sleeping_guarded.specs.declared.SleepingGuarded.{SleepingGuarded}
 use Rattle.sleeping_guarded.specs.declared.GuardedHandle.{GuardedHandle}
 
@@ -40,9 +41,12 @@ pub record HasLockedAtOnce (p q : GuardedPass) : Type 0 where
   pub went : PlaysUnlock within (passes.view q)
 
 module _ {T A : Type 0} where
-  -- the pass is this value's
+  -- the lock itself, whose pass is the object's
+  abbrev pub below : SleepingGuarded T A → Guarded T A
+  below o = o.value
+
   abbrev pub IsSleepingPass : SleepingGuarded T A → GuardedPass → Type 0
-  IsSleepingPass v p = passes.IsGuardedPass v.value p
+  IsSleepingPass o p = passes.IsGuardedPass (below o) p
 
   -- the value that it is a handle of, and its pass
   abbrev pub object_of : GuardedHandle T A → SleepingGuarded T A

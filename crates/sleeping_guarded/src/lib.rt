@@ -50,7 +50,15 @@ impl<T, A: Allocator> SleepingGuarded<T, A> {
     ghost use Rattle.running_passes.specs.Parts.{IsWhole};
     ghost use Rattle.running_guarded.specs.GuardedShown.{part_of};
     ghost use Rattle.running_guarded.specs.GuardedSteps.{Acts};
-    ghost use Rattle.sleeping_guarded.specs.HandleShown.{IsSleepingPass, object_of, pass_of, HasLockedAtOnce, HasSeenLocked};
+    ghost use Rattle.sleeping_guarded.specs.HandleShown.{IsSleepingPass, below, object_of, pass_of, HasLockedAtOnce, HasSeenLocked};
+
+    /// The guarded value itself, for calls with a pass: with closures of your own, or where you count.
+    #[inline(always)]
+    pub fn guarded(&self) -> &Guarded<T, A>
+        ensures { result.now ≡ below self.now }
+    {
+        &self.value
+    }
 
     /// The handle with this pass.
     #[inline(always)]

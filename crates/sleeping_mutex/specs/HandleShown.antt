@@ -10,6 +10,7 @@ use Rattle.running_mutex.specs.MutexShown.{IsLocked, IsMutexPass, HasLocked, Has
 use Rattle.running_mutex.specs.declared.MutexHold.{MutexHold}
 use Rattle.running_passes.specs.declared.part.Part.{Part}
 use Rattle.running_passes.specs.Passes.{part_of}
+use Rattle.running_mutex.specs.declared.Mutex.{Mutex}
 use Rattle.sleeping_mutex.specs.declared.SleepingMutex.{SleepingMutex}
 use Rattle.sleeping_mutex.specs.declared.MutexHandle.{MutexHandle}
 
@@ -45,9 +46,12 @@ pub record HasSeenLocked (p q : MutexPass) : Type 0 where
   pub played : HasPlayed calls.TryLock answers.Interrupted None p q
 
 module _ {A : Type 0} where
-  -- the pass is this mutex's
+  -- the lock itself, whose pass is the object's
+  abbrev pub below : SleepingMutex A → Mutex A
+  below o = o.mutex
+
   abbrev pub IsSleepingPass : SleepingMutex A → MutexPass → Type 0
-  IsSleepingPass m p = IsMutexPass m.mutex p
+  IsSleepingPass o p = IsMutexPass (below o) p
 
   -- the mutex that it is a handle of, and its pass
   abbrev pub object_of : MutexHandle A → SleepingMutex A

@@ -32,7 +32,7 @@ impl<A: Allocator> SleepingMutex<A> {
     ghost use Rattle.running_model.specs.Slots.{no_parties};
     ghost use Rattle.running_model.specs.Passes.{played};
     ghost use Rattle.running_tallies.specs.Mutex.{no_holds};
-    ghost use Rattle.sleeping_mutex.specs.HandleShown.{IsSleepingPass, object_of, pass_of, Acts, HasLockedOnce, HasLockedAtOnce, HasGivenUp, HasSeenLocked};
+    ghost use Rattle.sleeping_mutex.specs.HandleShown.{IsSleepingPass, below, object_of, pass_of, Acts, HasLockedOnce, HasLockedAtOnce, HasGivenUp, HasSeenLocked};
 
     /// A mutex that is free, at which nobody sleeps, and the pass that is whole. `Err` where there was no memory; then nothing was made.
     pub fn new(alloc: A) -> Result<(SleepingMutex<A>, MutexPass), AllocError>
@@ -42,6 +42,14 @@ impl<A: Allocator> SleepingMutex<A> {
         let (mutex, pass) = Mutex::new(alloc)?;
         let sleepers = Sleepers::new();
         Ok((SleepingMutex { mutex, sleepers }, pass))
+    }
+
+    /// The mutex itself, for calls with a pass: with closures of your own, or where you count.
+    #[inline(always)]
+    pub fn mutex(&self) -> &Mutex<A>
+        ensures { result.now ≡ below self.now }
+    {
+        &self.mutex
     }
 
     /// The handle with this pass.
@@ -137,8 +145,6 @@ impl<'m, A: Allocator> MutexHandle<'m, A> {
     ghost use Rattle.running_passes.specs.declared.part.Part.{Part};
     ghost use Rattle.running_passes.specs.Parts.{half, IsAgain, IsSamePart, AddUp};
     ghost use Rattle.std.specs.Prelude.{◌≡◌, None, IfSome, IfNone, IsSome, ◌<◌, vec_len, IfOk};
-    ghost use Rattle.running_passes.specs.Views.{left_view, right_view, joined_view};
-    ghost use Rattle.running_passes.specs.Passes.{view};
     ghost use Rattle.sleeping_mutex.specs.HandleShown.{IsSleepingPass, object_of, pass_of, part_with, PassHas, Acts, HasLockedOnce, HasLockedAtOnce, HasGivenUp, HasSeenLocked};
 
     /// Locks the mutex, asleep until it is free, calls `act`, unlocks, and wakes one that sleeps. `act` is shown the hold, so what asks for

@@ -8,6 +8,7 @@ use Rattle.running_rw_writer.specs.declared.pass.RwWriterPass.{RwWriterPass}
 use Rattle.running_rw_writer.specs.RwWriterShown as passes
 use Rattle.running_rw_value.specs.RwValueShown.{IsRwValuePass, PlaysUnlock}
 use Rattle.running_passes.specs.declared.part.Part.{Part}
+use Rattle.running_rw_value.specs.declared.lock.RwLock.{RwLock}
 use Rattle.sleeping_rw_value.specs.declared.SleepingRwValue.{SleepingRwValue}
 use Rattle.sleeping_rw_value.specs.declared.RwValueHandle.{RwValueHandle}
 
@@ -50,9 +51,12 @@ pub record HasSeenTaken (p q : RwWriterPass) : Type 0 where
   pub played : passes.HasPlayed calls.TryWriteLock answers.Interrupted None (passes.pass_in p) (passes.pass_in q)
 
 module _ {T A : Type 0} where
-  -- the pass is this value's
+  -- the lock itself, whose pass is the object's
+  abbrev pub below : SleepingRwValue T A → RwLock T A
+  below o = o.value
+
   abbrev pub IsSleepingPass : SleepingRwValue T A → RwWriterPass → Type 0
-  IsSleepingPass v p = IsRwValuePass v.value p
+  IsSleepingPass o p = IsRwValuePass (below o) p
 
   -- the value that it is a handle of, and its pass
   abbrev pub object_of : RwValueHandle T A → SleepingRwValue T A

@@ -38,7 +38,7 @@ impl<T, A: Allocator> SleepingRwValue<T, A> {
     ghost use Rattle.running_tallies.specs.RwWriter.{nothing_marked};
     ghost use Rattle.running_rw_writer.specs.RwWriterShown.{known_by};
     ghost use Rattle.running_rw_value.specs.RwValueShown.{Looks, Acts};
-    ghost use Rattle.sleeping_rw_value.specs.HandleShown.{IsSleepingPass, object_of, pass_of, HasReadAtOnce, HasWrittenAtOnce, WasTurnedAway, HasSeenTaken};
+    ghost use Rattle.sleeping_rw_value.specs.HandleShown.{IsSleepingPass, below, object_of, pass_of, HasReadAtOnce, HasWrittenAtOnce, WasTurnedAway, HasSeenTaken};
 
     /// A value that is free, at which nobody sleeps, and the pass that is whole. `Err` where there was no memory; then nothing was made, and
     /// the value comes back.
@@ -58,6 +58,14 @@ impl<T, A: Allocator> SleepingRwValue<T, A> {
             },
             pass,
         ))
+    }
+
+    /// The lock itself, for calls with a pass: with closures of your own, or where you count.
+    #[inline(always)]
+    pub fn lock(&self) -> &RwLock<T, A>
+        ensures { result.now ≡ below self.now }
+    {
+        &self.value
     }
 
     /// The handle with this pass.

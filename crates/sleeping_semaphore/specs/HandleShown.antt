@@ -9,6 +9,7 @@ use Rattle.running_semaphore.specs.SemaphoreShown as passes
 use Rattle.running_semaphore.specs.SemaphoreShown.{SemPass}
 use Rattle.running_passes.specs.declared.part.Part.{Part}
 use Rattle.running_passes.specs.Passes.{part_of}
+use Rattle.running_semaphore.specs.declared.Semaphore.{Semaphore}
 use Rattle.sleeping_semaphore.specs.declared.SleepingSemaphore.{SleepingSemaphore}
 use Rattle.sleeping_semaphore.specs.declared.SemaphoreHandle.{SemaphoreHandle}
 use Rattle.sleeping_semaphore.specs.declared.Permit.{Permit}
@@ -40,10 +41,14 @@ pub record HasPosted (value initial : ℕ) (p q : SemPass) : Type 0 where
   pub played : passes.HasPlayedPost initial value p q
 
 module _ {A : Type 0} where
-  -- the pass is this semaphore's, and with how many permits it was made
-  abbrev pub IsSleepingPass : SleepingSemaphore A → SemPass → Type 0
-  IsSleepingPass s p = passes.IsSemPass s.semaphore p
+  -- the lock itself, whose pass is the object's
+  abbrev pub below : SleepingSemaphore A → Semaphore A
+  below o = o.semaphore
 
+  abbrev pub IsSleepingPass : SleepingSemaphore A → SemPass → Type 0
+  IsSleepingPass o p = passes.IsSemPass (below o) p
+
+  -- with how many permits it was made
   abbrev pub initial_of : SleepingSemaphore A → ℕ
   initial_of s = passes.initial_of s.semaphore
 

@@ -37,7 +37,7 @@ impl<A: Allocator> SleepingSemaphore<A> {
     ghost use Rattle.running_model.specs.Slots.{no_parties};
     ghost use Rattle.running_model.specs.Passes.{played};
     ghost use Rattle.running_tallies.specs.Semaphore.{first_permits};
-    ghost use Rattle.sleeping_semaphore.specs.HandleShown.{IsSleepingPass, initial_of, object_of, pass_of};
+    ghost use Rattle.sleeping_semaphore.specs.HandleShown.{IsSleepingPass, below, initial_of, object_of, pass_of};
 
     /// A semaphore with so many permits, at which nobody sleeps, and the pass that is whole. `Err` where there was no memory; then nothing
     /// was made.
@@ -55,6 +55,14 @@ impl<A: Allocator> SleepingSemaphore<A> {
             },
             pass,
         ))
+    }
+
+    /// The semaphore itself, for calls with a pass: with closures of your own, or where you count.
+    #[inline(always)]
+    pub fn semaphore(&self) -> &Semaphore<A>
+        ensures { result.now ≡ below self.now }
+    {
+        &self.semaphore
     }
 
     /// The handle with this pass.

@@ -1,4 +1,4 @@
-use Rattle.std.proofs.Common.{◌≡◌, ◌+◌, ◌≤◌, length}
+use Rattle.std.proofs.Common.{◌≡◌, ◌+◌, length}
 use Rattle.sleeping_mutex.proofs.MutexHandle.split_into.Given as goal
 
 abbrev pub invariant-loop : goal.invariant-loop
