@@ -1,0 +1,16 @@
+//! Calls on their happy path, refusals beside a holder, and threads that sleep and are woken. What these need of a handle is said by its type.
+mod guarded;
+mod monitor;
+mod mutex;
+mod rw_value;
+mod semaphore;
+
+/// How often a holder yields to one that comes to sleep beside it.
+const TURNS: u64 = 20_000;
+
+/// Yields so often that others come to sleep.
+fn linger() {
+    for _ in 0..TURNS {
+        std::thread::yield_now();
+    }
+}
