@@ -9,7 +9,7 @@ WHAT is `proofs`, `tests`, `programs`, `edits`, `tries` or `cases`, each alone o
     edits      each must-fail edit is tried, many in one check (tools/edits.py)
     tries      the tests of each crate are run as they are, unproved
     cases      each text of examples is read by the programs as they are, unproved
-    parts      these parts of ./test, as `parts=docs,texts`: once the programs that play texts are built and the edits tried, where that is asked too
+    parts      these parts of ./test, as `parts=docs,texts`: once the programs that play texts are built, where that is asked too
 
 With a budget of K minutes tests run as they are, and what may be left out, which is edits and the proofs of tests, comes last, and is begun for so
 long: first that of crates that changed lately, then from a quarter of all others on that each landing moves on by one. What was left out is told, and
@@ -465,7 +465,7 @@ def tasks_of(wanted, crates, until, turns):
             elif kind == "cases" and it.name in EXAMPLES:
                 add(kind, it.name, [], unproved(it), play)
     for name in wanted.get("parts", ()):
-        after = [("programs", it) for it in EXAMPLES if name in PLAYING] + [it for it in tasks if it[0] == "edits" and name == "docs" and not tasks[it].turn]
+        after = [("programs", it) for it in EXAMPLES if name in PLAYING]
         tasks["parts", name] = Task("parts", Part(name), after, 600, try_part)
     for task in tasks.values():
         task.after = [it for it in task.after if it in tasks and it != task.key]
