@@ -9,7 +9,7 @@ WHAT is `proofs`, `tests`, `programs`, `edits`, `tries` or `cases`, each alone o
     edits      each must-fail edit is tried, many in one check (tools/edits.py)
     tries      the tests of each crate are run as they are, unproved
     cases      each text of examples is read by the programs as they are, unproved
-    parts      these parts of ./test, as `parts=docs,texts`: once the programs that play texts are built and the edits tried, where that is asked too
+    parts      these parts of ./test, as `parts=docs,texts`: once the programs that play texts are built, where that is asked too
 
 With a budget of K minutes tests run as they are, and what may be left out, which is edits and the proofs of tests, comes last, and is begun for so
 long: first that of crates that changed lately, then from a quarter of all others on that each landing moves on by one. What was left out is told, and
@@ -206,7 +206,7 @@ class Lane:
     """A copy of the crates, in which one command of rt runs at a time."""
 
     def __init__(self, top, folder, shelf):
-        self.top, self.folder, self.shelf, self.child = top, folder, shelf, None
+        self.top, self.folder, self.shelf, self.child, self.is_stopped = top, folder, shelf, None, False
         os.makedirs(f"{folder}/.git", exist_ok=True)
         for name in ("crates.txt", "HANDLES"):
             shutil.copy2(f"{top}/{name}", folder)
@@ -231,6 +231,8 @@ class Lane:
 
     def run(self, crate, words, stdin=None, apart=False):
         """Runs a command in a crate's folder: its status, and what it wrote; or, apart, its standard output and its standard error."""
+        if self.is_stopped:
+            raise InterruptedError
         with open(stdin or os.devnull, "rb") as given:
             self.child = subprocess.Popen(
                 words,
@@ -250,6 +252,7 @@ class Lane:
         return (status, said, complained) if apart else (status, said)
 
     def stop(self):
+        self.is_stopped = True
         if self.child:
             os.killpg(self.child.pid, signal.SIGKILL)
 
@@ -465,7 +468,7 @@ def tasks_of(wanted, crates, until, turns):
             elif kind == "cases" and it.name in EXAMPLES:
                 add(kind, it.name, [], unproved(it), play)
     for name in wanted.get("parts", ()):
-        after = [("programs", it) for it in EXAMPLES if name in PLAYING] + [it for it in tasks if it[0] == "edits" and name == "docs" and not tasks[it].turn]
+        after = [("programs", it) for it in EXAMPLES if name in PLAYING]
         tasks["parts", name] = Task("parts", Part(name), after, 600, try_part)
     for task in tasks.values():
         task.after = [it for it in task.after if it in tasks and it != task.key]
@@ -602,6 +605,9 @@ def main(words):
         wanted["tries"] = wanted["tests"]
     tasks = tasks_of(wanted, crates, until, turns)
     (at, stays), began = lanes_at(top), os.times()
+    if os.environ.get("LANES") == at:
+        sys.exit("it is called from within: a source has changed since the programs were built")
+    os.environ["LANES"] = at
     os.makedirs(at, exist_ok=True)
     held = open(f"{at}/lock", "w", encoding="utf-8")
     try:
@@ -615,12 +621,15 @@ def main(words):
             sys.exit(f"the disk is full: {lacks}")
         print(f"{lacks}: what nothing needs any more is taken away", flush=True)
     lanes = [Lane(top, f"{at}/{number}", shelf) for number in range(max(1, min(asked.lanes, len(tasks))))]
-    try:
-        given = run_all(tasks, lanes, Progress(tasks), until)
-    except KeyboardInterrupt:
+
+    def stop(*_):
         for it in lanes:
             it.stop()
         sys.exit(130)
+
+    signal.signal(signal.SIGINT, stop)
+    try:
+        given = run_all(tasks, lanes, Progress(tasks), until)
     finally:
         if not stays:
             shutil.rmtree(at, ignore_errors=True)
