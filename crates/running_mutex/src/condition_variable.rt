@@ -26,7 +26,8 @@ use model_events::WaitAction;
 use model_events::event::Wake;
 use model_waiters::WaitersPlace;
 use running_model::Stage;
-use running_model::turn::{AfterAside, Called, Goes, Turn, begin_new};
+use running_model::calls::{ValueCall, WaitCall};
+use running_model::turn::{AfterAside, Goes, Turn, begin_new};
 use running_passes::{Pass, WaitResult};
 use running_semaphore::{SemPass, Semaphore};
 use running_tallies::WaitWord;
@@ -90,24 +91,6 @@ impl<H> From<WaitResult<Woken<H>>> for CondResult<H> {
             WaitResult::Interrupted => CondResult::Interrupted(None),
         }
     }
-}
-
-/// A `Value`.
-struct ValueCall;
-
-impl Called<u64> for ValueCall {
-    ghost use Rattle.model_events.specs.declared.event.Call.TheVariants as calls;
-
-    ghost call = { calls.Value };
-}
-
-/// A `Wait`.
-struct WaitCall;
-
-impl Called<u64> for WaitCall {
-    ghost use Rattle.model_events.specs.declared.event.Call.TheVariants as calls;
-
-    ghost call = { calls.Wait };
 }
 
 impl CondPass {

@@ -17,6 +17,7 @@ mod waits;
 
 use model_events::WaitAction;
 use model_mutex::{MutexPlace, granted};
+use running_model::calls::{LockCall, TryLockCall, UnlockCall};
 use running_model::turn::{
     Attempt, Called, Continues, Goes, Turn, Way, begin_held, begin_new, try_again,
 };
@@ -57,33 +58,6 @@ pub struct MutexHold<'p> {
     pass: &'p mut MutexPass,
     ghost on: { (counts_of pass.now).holds ≡ 1 },
     ghost has: { HasMutex (parties_of pass.now) },
-}
-
-/// A `TryLock`.
-struct TryLockCall;
-
-impl Called<u64> for TryLockCall {
-    ghost use Rattle.model_events.specs.declared.event.Call.TheVariants as calls;
-
-    ghost call = { calls.TryLock };
-}
-
-/// A `Lock`.
-struct LockCall;
-
-impl Called<u64> for LockCall {
-    ghost use Rattle.model_events.specs.declared.event.Call.TheVariants as calls;
-
-    ghost call = { calls.Lock };
-}
-
-/// An `Unlock`.
-struct UnlockCall;
-
-impl Called<u64> for UnlockCall {
-    ghost use Rattle.model_events.specs.declared.event.Call.TheVariants as calls;
-
-    ghost call = { calls.Unlock };
 }
 
 impl<A: Allocator> Mutex<A> {

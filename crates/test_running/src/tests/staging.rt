@@ -11,6 +11,7 @@ ghost use Rattle.test_running.specs.Ending.{ending_model};
 ghost use Rattle.test_running.specs.Staging.{counter_model};
 
 use model_events::row::Intent;
+use running_model::calls::{CallOnceCall, TryLockCall, TryWaitCall, ValueCall};
 use running_model::turn::{Called, begin_new};
 use running_model::{Counts, CountsByActs, Played, Script, Stage};
 use running_passes::{Pass, Rule, Tally};
@@ -95,15 +96,6 @@ type Counter = Stage<(), CounterScript, Intent<u64>, u64, Nothing>;
 
 type CounterPass = Pass<Played<CounterScript, Intent<u64>, u64, Nothing>>;
 
-/// A `Value`.
-struct Looking;
-
-impl Called<u64> for Looking {
-    ghost use Rattle.model_events.specs.declared.event.Call.TheVariants as calls;
-
-    ghost call = { calls.Value };
-}
-
 /// A `Post` of 7.
 struct AddingSeven;
 
@@ -111,15 +103,6 @@ impl Called<u64> for AddingSeven {
     ghost use Rattle.model_events.specs.declared.event.Call.TheVariants as calls;
 
     ghost call = { calls.Post 7 };
-}
-
-/// A `TryWait`.
-struct TakingOne;
-
-impl Called<u64> for TakingOne {
-    ghost use Rattle.model_events.specs.declared.event.Call.TheVariants as calls;
-
-    ghost call = { calls.TryWait };
 }
 
 /// A `NotifyAll`.
@@ -131,15 +114,6 @@ impl Called<u64> for Clearing {
     ghost call = { calls.NotifyAll };
 }
 
-/// A `TryLock`.
-struct Trying;
-
-impl Called<u64> for Trying {
-    ghost use Rattle.model_events.specs.declared.event.Call.TheVariants as calls;
-
-    ghost call = { calls.TryLock };
-}
-
 /// A call of one step, a load, as a turn.
 fn turn_to_load(counter: &Counter, pass: &mut CounterPass) -> u64
     requires own { IsPassOf counter.now pass.old }
@@ -147,7 +121,7 @@ fn turn_to_load(counter: &Counter, pass: &mut CounterPass) -> u64
     ensures same { IsSamePass pass.old pass.new }
     ensures looked { HasCalled counter_model calls.Value (answers.Number result) None (parties_of pass.old) (parties_of pass.new) }
 {
-    let begun = begin_new::<Looking, CounterPass>(pass);
+    let begun = begin_new::<ValueCall, CounterPass>(pass);
     let (found, made) = begun.load(counter, 0);
     let _pass = made.end(counter);
     found
@@ -171,7 +145,7 @@ fn turn_to_subtract(counter: &Counter, pass: &mut CounterPass) -> u64
     requires one_word { count_of counter.now ≡ 1 }
     ensures same { IsSamePass pass.old pass.new }
 {
-    let begun = begin_new::<TakingOne, CounterPass>(pass);
+    let begun = begin_new::<TryWaitCall, CounterPass>(pass);
     let (found, made) = begun.subtract(counter, 0, 1);
     let _pass = made.end(counter);
     found
@@ -194,7 +168,7 @@ fn turn_to_exchange(counter: &Counter, pass: &mut CounterPass) -> u64
     requires one_word { count_of counter.now ≡ 1 }
     ensures same { IsSamePass pass.old pass.new }
 {
-    let begun = begin_new::<Trying, CounterPass>(pass);
+    let begun = begin_new::<TryLockCall, CounterPass>(pass);
     let (found, made) = begun.exchange(counter, 0, 0, 1);
     let _pass = made.end(counter);
     found
@@ -243,15 +217,6 @@ impl Script<(), Intent<u64>, u64> for EndingScript {
     ghost handed = { λ _. words.State };
 }
 
-/// A `CallOnce`.
-struct Calling;
-
-impl Called<u64> for Calling {
-    ghost use Rattle.model_events.specs.declared.event.Call.TheVariants as calls;
-
-    ghost call = { calls.CallOnce };
-}
-
 type Ending = Stage<(), EndingScript, Intent<u64>, u64, Nothing>;
 
 type EndingPass = Pass<Played<EndingScript, Intent<u64>, u64, Nothing>>;
@@ -264,7 +229,7 @@ fn run_and_store(ending: &Ending, pass: &mut EndingPass) -> u64
     ensures gave { result ≡ 5 }
     ensures played { HasCalled ending_model calls.CallOnce answers.Done None (parties_of pass.old) (parties_of pass.new) }
 {
-    let begun = begin_new::<Calling, EndingPass>(pass);
+    let begun = begin_new::<CallOnceCall, EndingPass>(pass);
     let (_, looked) = begun.load(ending, 0);
     let (given, ended) = looked.run(
         ending,

@@ -5,7 +5,7 @@ use Rattle.running_mutex.proofs.condition_variable.ConditionVariable.count_in.Go
 
 pub returns-clause-counted : goal.returns-clause-counted
 returns-clause-counted g c = subst (λ p. HasDone went_in p c.add-counted.result.1.pass.now) c.begin_new-begun.ensures.still
-    (c.add-counted.ensures.same, counts_in _ _ _ _ _ (may_count_in _) c.add-counted.ensures.acted.told)
+    (c.add-counted.ensures.same, counts_in _ _ _ _ _ (may_count_in _) c.add-counted.ensures.stepped.acted.told)
 
 pub returns-clause-inside : goal.returns-clause-inside
-returns-clause-inside g c = subst (λ p. IsInside (all_of (parties_of p)) (parties_of c.add-counted.result.1.pass.now)) c.begin_new-begun.ensures.still (goes_in _ _ _ c.add-counted.ensures.went)
+returns-clause-inside g c = subst (λ p. IsInside (all_of (parties_of p)) (parties_of c.add-counted.result.1.pass.now)) c.begin_new-begun.ensures.still (goes_in _ _ _ c.add-counted.ensures.stepped.went)

@@ -8,4 +8,4 @@ pub subtract-found-requires-clause-may : goal.subtract-found-requires-clause-may
 subtract-found-requires-clause-may c = may Call.TryWait _ _ refl refl tt refl
 
 pub end-pass-requires-clause-over : goal.end-pass-requires-clause-over
-end-pass-requires-clause-over c = is_over counter_model Call.TryWait _ _ _ _ (c.subtract-found.ensures.went Call.TryWait (Intent.Subtract Word.State 1) _ _ (begins Call.TryWait (Intent.Subtract Word.State 1) _ refl refl tt))
+end-pass-requires-clause-over c = is_over counter_model Call.TryWait _ _ _ _ (c.subtract-found.ensures.stepped.went Call.TryWait (Intent.Subtract Word.State 1) _ _ (begins Call.TryWait (Intent.Subtract Word.State 1) _ refl refl tt))
