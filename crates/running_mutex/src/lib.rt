@@ -11,9 +11,7 @@ ghost use Rattle.running_model.specs.Stages.{count_of};
 ghost use Rattle.running_mutex.specs.MutexParties.{HasMutex};
 ghost use Rattle.running_mutex.specs.MutexSteps.{GrantsAreOfARun, OneHolder};
 
-pub mod condition_variable;
 mod shares;
-mod waits;
 
 use model_events::WaitAction;
 use model_mutex::{MutexPlace, granted};
@@ -55,7 +53,8 @@ pub type MutexPass = Pass<PlayedMutex>;
 /// The mutex is locked by this pass, which is lent to the hold. A hold must be spent, by `Mutex::unlock` at the mutex that it came
 /// from.
 pub struct MutexHold<'p> {
-    pass: &'p mut MutexPass,
+    /// For the condition variable, which takes it out and builds the hold anew.
+    pub pass: &'p mut MutexPass,
     ghost on: { (counts_of pass.now).holds ≡ 1 },
     ghost has: { HasMutex (parties_of pass.now) },
 }
