@@ -93,75 +93,52 @@ is_current() {
     fi
 }
 
-# Reads what rt says into `said`. Tells of a wait for another rt, and says `working` once that takes `patience` seconds.
+# Reads what is said of a build into `said`, and passes it on once that takes `patience` seconds; that it waits for another, at once.
 listen() {
-    local line part= took= status
+    local line part= status
     SECONDS=0
     while true; do
-        if [[ -z $took ]] && ((SECONDS >= patience)); then
-            took=told
-            say "$working"
+        if [[ -n $patience ]] && ((SECONDS >= patience)); then
+            patience=
+            say "building the program"
         fi
         status=0
         IFS= read -r -t 1 line || status=$?
         part+=$line
         if ((status == 0)); then
             said+=("$part")
-            if [[ -z $waits && $part == 'rt: waiting for another rt'* ]]; then
-                waits=told
-                say "waiting for another rt, which works in this repository"
+            if [[ -z $patience || $part == waiting* ]]; then
+                say "$part"
             fi
             part=
         elif ((status <= 128)); then
             break
         fi
     done
-    if [[ -n $part ]]; then
-        said+=("$part")
-    fi
 }
 
 need_rt() {
     command -v rt >/dev/null || fail "the program has to be built first, and the kit's command rt is not on PATH"
 }
 
-# Proves and builds each crate that the program stands on, lowest first, and then the program. Says which, where that takes seconds.
+# Proves all that the program stands on, side by side, and builds it. Says how far that is, where it takes seconds.
 build() {
     need_rt
     mkdir -p -- "$folder/out" 2>/dev/null && [[ -w $folder/out ]] ||
         fail "the program has to be built first, and $folder/out cannot be written"
-    local at said waits= patience working
-    if [[ -x $program ]]; then
-        patience=5
-    else
-        patience=2
+    local said=() patience=5
+    if [[ ! -x $program ]]; then
+        patience=
         say "building the program; the first time this proves everything it stands on, which takes some minutes"
     fi
-    for ((at = 0; at < ${#crates[@]}; at++)); do
-        working="building: $((at + 1)) of ${#crates[@]}: ${crates[at]}"
-        build_crate "${crates[at]}"
-    done
-    [[ -x $program ]] || fail "rt run ended well, but left no $program"
+    if ! { python3 tools/prove.py "programs=$crate" </dev/null 2>&1; } | listen; then
+        printf '%s\n' "${said[@]}" | tail -n 20 >&2 || true
+        { printf '%s\n' "${said[@]}" >"$folder/out/build.log"; } 2>/dev/null || true
+        fail "the program was not built; all that was said of it is in $folder/out/build.log"
+    fi
+    [[ -x $program ]] || fail "tools/prove.py ended well, but left no $program"
     # The sum was taken before the build, so what was edited meanwhile is built at the next call.
     { printf '%s\n' "$sum" "$(sum_of_program)" >"$built_of"; } 2>/dev/null || true
-}
-
-# build_crate CRATE
-build_crate() {
-    local command=lib
-    if [[ $1 == "$crate" ]]; then
-        # rt runs what it has built: here on the crate's stored run, so that the caller's input is left alone.
-        command=run
-    fi
-    said=()
-    if { cd -- "crates/$1" && rt "$command" <"$folder/stdin" 2>&1; } | listen; then
-        return
-    fi
-    printf '%s\n' "${said[@]}" | tail -n 20 >&2 || true
-    if { printf '%s\n' "${said[@]}" >"$folder/out/build.log"; } 2>/dev/null; then
-        fail "the program was not built; all that rt said of $1 is in $folder/out/build.log"
-    fi
-    fail "the program was not built: $1"
 }
 
 # Runs the sources as they are, with the caller's streams. rt tells on standard error how the run ended, behind what the program writes there.

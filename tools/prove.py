@@ -6,10 +6,14 @@ WHAT is `proofs`, `tests`, `programs`, `edits`, `tries` or `cases`, each alone o
     proofs     each crate, or those named and what they stand on, is proved, over what this machine keeps of the same text
     tests      the tests of each crate are proved and run
     programs   each program is proved, built by both compilers and run on its stored run
-    edits      each must-fail edit is tried, many in one check (tools/edits.py); after K minutes none is begun
+    edits      each must-fail edit is tried, many in one check (tools/edits.py)
     tries      the tests of each crate are run as they are, unproved
     cases      each text of examples is read by the programs as they are, unproved
-    parts      these parts of ./test, as `parts=docs,texts`: once the programs that play texts are built and the edits tried, where that is asked too
+    parts      these parts of ./test, as `parts=docs,texts`: once the programs that play texts are built, where that is asked too
+
+With a budget of K minutes tests run as they are, and what may be left out, which is edits and the proofs of tests, comes last, and is begun for so
+long: first that of crates that changed lately, then from a quarter of all others on that each landing moves on by one. What was left out is told, and
+is no failure.
 
 It works in copies beside the checkout's history (.git/lanes), a lane each, since a command of rt locks the crates that it reads. What one of them has
 proved the others take, by links, and so does the next call. A line is printed for each part of a crate, on a terminal how far it is; then what it
@@ -30,6 +34,7 @@ import sys
 import tempfile
 import threading
 import time
+import zlib
 
 import edits
 
@@ -52,6 +57,8 @@ WRITTEN, SPARE = 275_000, 3_000_000_000
 FULL = "No space left on device"
 # The parts of ./test that play texts by these programs.
 PLAYING = {"examples", "explore", "texts", "streams", "broken", "conform"}
+# How long after its first commit what is committed came with the same landing, in seconds.
+LANDING = 3 * 3600
 # Held while what refused edits is written.
 KEEPING = threading.Lock()
 # What each program reads, and what it writes of that.
@@ -100,10 +107,11 @@ def crates_of(top):
 
 
 class Task:
-    """One command's work on one crate: what it waits for, how long it takes, in lines of code proved, and what does it, given a lane."""
+    """One command's work on one crate: what it waits for, how long it takes, in lines of code proved, what does it, given a lane, and where it comes among
+    what may be left out: 0 if it may not."""
 
-    def __init__(self, kind, crate, after, weight, call):
-        self.kind, self.crate, self.after, self.weight, self.call = kind, crate, after, weight, call
+    def __init__(self, kind, crate, after, weight, call, turn=0):
+        self.kind, self.crate, self.after, self.weight, self.call, self.turn = kind, crate, after, weight, call, turn
         self.key, self.behind = (kind, crate.name), weight
 
 
@@ -198,7 +206,7 @@ class Lane:
     """A copy of the crates, in which one command of rt runs at a time."""
 
     def __init__(self, top, folder, shelf):
-        self.top, self.folder, self.shelf, self.child = top, folder, shelf, None
+        self.top, self.folder, self.shelf, self.child, self.is_stopped = top, folder, shelf, None, False
         os.makedirs(f"{folder}/.git", exist_ok=True)
         for name in ("crates.txt", "HANDLES"):
             shutil.copy2(f"{top}/{name}", folder)
@@ -223,6 +231,8 @@ class Lane:
 
     def run(self, crate, words, stdin=None, apart=False):
         """Runs a command in a crate's folder: its status, and what it wrote; or, apart, its standard output and its standard error."""
+        if self.is_stopped:
+            raise InterruptedError
         with open(stdin or os.devnull, "rb") as given:
             self.child = subprocess.Popen(
                 words,
@@ -242,6 +252,7 @@ class Lane:
         return (status, said, complained) if apart else (status, said)
 
     def stop(self):
+        self.is_stopped = True
         if self.child:
             os.killpg(self.child.pid, signal.SIGKILL)
 
@@ -402,21 +413,31 @@ def closed(names, crates):
     return {it for name in names or crates for it in (name, *crates[name].below)}
 
 
-def latest_first(top):
-    """The crates that git knows, those that changed last first."""
-    order = []
-    for words in (["status", "--porcelain"], ["log", "--name-only", "--format="]):
-        ran = subprocess.run(["git", *words, "--", "crates"], cwd=top, stdout=subprocess.PIPE, stderr=subprocess.DEVNULL, text=True)
-        order += re.findall(r"(?m)crates/(\w+)/", ran.stdout)
-    return list(dict.fromkeys(order))
+def in_turn(top, names):
+    """These crates, in the order in which what may be left out is begun: those that git says changed lately, the last first; then the others, round a
+    circle that stays, from a quarter of it on that is another at each landing."""
+    said = lambda *words: subprocess.run(["git", *words], cwd=top, stdout=subprocess.PIPE, stderr=subprocess.DEVNULL, text=True).stdout
+    changed = said("status", "--porcelain", "--", "crates") + said("log", "-20", "--name-only", "--format=", "--", "crates")
+    lately = [it for it in re.findall(r"(?m)crates/(\w+)/", changed) if it in names]
+    began = landing_of(map(int, said("log", "--format=%ct").split())) / 4
+    return list(dict.fromkeys([*lately, *sorted(names, key=lambda it: (zlib.crc32(it.encode()) / 2**32 - began) % 1)]))
 
 
-def tasks_of(wanted, crates, until):
-    """The tasks of what is wanted, by kind and crate."""
+def landing_of(times):
+    """The number of the landing of the last of the commits that were made at these times."""
+    number, first = 0, -LANDING
+    for it in sorted(times):
+        if it >= first + LANDING:
+            number, first = number + 1, it
+    return number
+
+
+def tasks_of(wanted, crates, until, turns):
+    """The tasks of what is wanted, by kind and crate. What may be left out has its turn."""
     tasks = {}
 
     def add(kind, name, after, weight, call):
-        tasks[kind, name] = Task(kind, crates[name], after, weight, call)
+        tasks[kind, name] = Task(kind, crates[name], after, weight, call, turns.get(name, 0) if kind in ("tests", "edits") else 0)
 
     def add_proofs(names):
         for name in closed(names, crates):
@@ -447,7 +468,7 @@ def tasks_of(wanted, crates, until):
             elif kind == "cases" and it.name in EXAMPLES:
                 add(kind, it.name, [], unproved(it), play)
     for name in wanted.get("parts", ()):
-        after = [("programs", it) for it in EXAMPLES if name in PLAYING] + [it for it in tasks if it[0] == "edits" and name == "docs"]
+        after = [("programs", it) for it in EXAMPLES if name in PLAYING]
         tasks["parts", name] = Task("parts", Part(name), after, 600, try_part)
     for task in tasks.values():
         task.after = [it for it in task.after if it in tasks and it != task.key]
@@ -472,8 +493,9 @@ class Progress:
             print(f"\r\x1b[K{self.ended} of {self.many}; some {left / 60:.0f} minutes more", end="", flush=True)
 
 
-def run_all(tasks, lanes, progress):
-    """Runs the tasks, each after those that it waits for and first those with the most behind them. Returns what each came to, and its seconds."""
+def run_all(tasks, lanes, progress, until):
+    """Runs the tasks, each after those that it waits for and first those with the most behind them; what may be left out where nothing else is ready, in its
+    turn, and until then. Returns what each came to, and its seconds."""
     for key in reversed(ordered(tasks)):
         for it in tasks[key].after:
             tasks[it].behind = max(tasks[it].behind, tasks[it].weight + tasks[key].behind)
@@ -494,7 +516,9 @@ def run_all(tasks, lanes, progress):
 
     with concurrent.futures.ThreadPoolExecutor(len(lanes)) as pool:
         while left or running:
-            ready = sorted((it for it in left.values() if all(below in given for below in it.after)), key=lambda it: -it.behind)
+            if time.time() >= until:
+                left = {key: it for key, it in left.items() if not it.turn}
+            ready = sorted((it for it in left.values() if all(below in given for below in it.after)), key=lambda it: (it.turn, -it.behind))
             while ready and free:
                 task, lane = ready.pop(0), free.pop()
                 jobs = min(4, 1 + len(free) // (len(ready) + 1)) if task.kind in ("proofs", "tests") else 1
@@ -548,16 +572,22 @@ def tell(given, crates, tasks, began):
     print(f"\nproved in this call: {len([it for it in of('proofs') if given['proofs', it][0].passed]) - len(kept)} libraries; kept by this machine: {' '.join(kept) or 'none'}")
     if of("tries") or of("cases"):
         print(f"ran as they are, unproved: {' '.join(of('tries') + of('cases'))}")
-    untried = sum(len(it.edits) for it in crates.values()) - sum(given[it][0].passed + given[it][0].failed for it in given if it[0] == "edits")
-    if untried:
-        print(f"edits that were not tried: {untried}")
+    tried = sum(given[it][0].passed + given[it][0].failed for it in given if it[0] == "edits")
+    unproved = [name for kind, name in tasks if kind == "tests" and (kind, name) not in given]
+    if tried < sum(len(it.edits) for it in crates.values()):
+        print(f"edits that were not tried: {sum(len(it.edits) for it in crates.values()) - tried}")
+    if unproved:
+        print(f"crates whose tests were not proved: {len(unproved)}")
+    share = lambda kind: sum(seconds for key, (_, seconds) in given.items() if key[0] == kind) / 60
+    spent = {kind: share(kind) for kind in dict.fromkeys(it[0] for it in given)}
+    print("; ".join(f"{kind} {it:.0f}" for kind, it in spent.items()) + " minutes of a lane" + (f", all {sum(spent.values()) / spent['proofs']:.1f} times the proofs" if spent.get("proofs") and not kept else ""))
     print(f"{(now.elapsed - began.elapsed) / 60:.1f} minutes, {minutes:.0f} of a processor")
 
 
 def main(words):
     parser = argparse.ArgumentParser(usage=__doc__)
     parser.add_argument("--lanes", type=int, default=len(os.sched_getaffinity(0)))
-    parser.add_argument("--minutes", type=float, default=1e9)
+    parser.add_argument("--minutes", type=float)
     parser.add_argument("--count")
     parser.add_argument("what", nargs="+")
     asked = parser.parse_args(words)
@@ -568,12 +598,16 @@ def main(words):
     unknown += [it for it in wanted if it not in ("proofs", "tests", "programs", "edits", "tries", "cases", "parts")]
     if unknown:
         sys.exit(f"{unknown[0]}: there is no such crate, or nothing of that name is done\n{__doc__}")
-    tasks = tasks_of(wanted, crates, time.time() + 60 * asked.minutes)
-    if [*wanted] == ["edits"]:
-        for at, name in enumerate(reversed(latest_first(top))):
-            if ("edits", name) in tasks:
-                tasks["edits", name].behind += 1_000_000 * (at + 1)
+    has_budget = asked.minutes is not None
+    until = time.time() + 60 * asked.minutes if has_budget else float("inf")
+    turns = {name: at for at, name in enumerate(in_turn(top, crates), 1)} if has_budget or [*wanted] == ["edits"] else {}
+    if has_budget and "tests" in wanted:
+        wanted["tries"] = wanted["tests"]
+    tasks = tasks_of(wanted, crates, until, turns)
     (at, stays), began = lanes_at(top), os.times()
+    if os.environ.get("LANES") == at:
+        sys.exit("it is called from within: a source has changed since the programs were built")
+    os.environ["LANES"] = at
     os.makedirs(at, exist_ok=True)
     held = open(f"{at}/lock", "w", encoding="utf-8")
     try:
@@ -587,12 +621,15 @@ def main(words):
             sys.exit(f"the disk is full: {lacks}")
         print(f"{lacks}: what nothing needs any more is taken away", flush=True)
     lanes = [Lane(top, f"{at}/{number}", shelf) for number in range(max(1, min(asked.lanes, len(tasks))))]
-    try:
-        given = run_all(tasks, lanes, Progress(tasks))
-    except KeyboardInterrupt:
+
+    def stop(*_):
         for it in lanes:
             it.stop()
         sys.exit(130)
+
+    signal.signal(signal.SIGINT, stop)
+    try:
+        given = run_all(tasks, lanes, Progress(tasks), until)
     finally:
         if not stays:
             shutil.rmtree(at, ignore_errors=True)

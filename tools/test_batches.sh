@@ -4,6 +4,7 @@
 # control, tried once. Each check there begins with what was proved, and with nothing that the one before it left. An edit that the law refuses is not
 # tried again, and one that it does not is. One that takes from a proof of `specs` what it stands on is bad. A closure's open goal is held against the
 # function in whose body it stands, and not against one of its own name. What was proved is kept from call to call, and does not serve another text.
+# With no time left, edits and the proofs of tests are left out, which is told, and is no failure; what is left out comes first at one of four landings.
 # Where next to nothing of the disk is free, and something is to be proved, nothing begins.
 test_batches() {
     local top=$room/batches crate=$room/batches/crates/sizes
@@ -155,6 +156,31 @@ PY
         succeed
     else
         fail "a crate that an earlier call proved" "it said: $(<"$room/out") $(tail -n 3 -- "$room/err")"
+    fi
+    attempt python3 "$top/tools/prove.py" --minutes 0 proofs tests edits
+    if [[ $status == 0 && $(tail -n 1 -- "$room/out") == "2 passed, 0 failed" && $(<"$room/out") == *"edits that were not tried: 9"*"crates whose tests were not proved: 1"* ]]; then
+        succeed
+    else
+        fail "a budget of no time" "it said: $(<"$room/out") $(tail -n 3 -- "$room/err")"
+    fi
+    attempt python3 - "$top" <<'PY'
+import sys
+
+sys.path.insert(0, f"{sys.argv[1]}/tools")
+import prove
+
+day = 24 * 3600
+print(prove.landing_of([day, day + 100, day + prove.LANDING - 1, 2 * day, day + prove.LANDING]))
+names, first = [f"crate_{it}" for it in range(400)], []
+for number in range(7, 11):
+    prove.landing_of = lambda times: number
+    first.append(set(prove.in_turn(sys.argv[1], names)[:130]))
+print(set.union(*first) == {*names}, len(set.intersection(*first)))
+PY
+    if [[ $(<"$room/out") == $'3\nTrue 0' ]]; then
+        succeed
+    else
+        fail "what was left out" "it said: $(<"$room/out") $(tail -n 3 -- "$room/err")"
     fi
     attempt python3 - "$top" <<'PY'
 import collections

@@ -1,5 +1,6 @@
 # All examples, the texts of texts/, and random ones, played on the Rust crate and on the model, step by step. Says how many texts, steps
-# and answers were compared, and how many texts differ by which row of docs/DIFFERENCES.md. It is skipped where rustc or the crate is wanting.
+# and answers were compared, and how many texts differ by which row of docs/DIFFERENCES.md; and the wake that is lost there, drawn. It is skipped where
+# rustc or the crate is wanting.
 test_conform() {
     local why
     why=$(conform/build 2>&1)
@@ -17,6 +18,10 @@ test_conform() {
         fi
         if ((status)); then
             fail conform "it ended with status $status; it said: $(tail -n 3 -- "$room/err")"
+        fi
+        if is_built sync-draw; then
+            attempt conform/draw
+            judge conform/draw 0 docs/pictures/rwwriter-lost-wake.svg /dev/null
         fi
     fi
 }

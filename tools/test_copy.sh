@@ -11,7 +11,7 @@ test_copy() {
     attempt tools/copy-library "$to" once
     judge_line "a once that stands there" 1 "copied: 0 crates; left as they stand: model_events model_once running_passes running_sharing running_model running_once" ""
     attempt tools/copy-library "$room/handles" sleeping_guarded
-    judge_line "a guarded value with handles" 0 "copied: 19 crates" ""
+    judge_line "a guarded value with handles" 0 "copied: 20 crates" ""
     attempt tools/copy-library "$to" mutexes
     judge_line "no lock" 1 "" "copy-library: there is no crate mutexes, nor one of a lock of that name"
 }

@@ -3,8 +3,8 @@
 import glob
 import os
 import re
-import subprocess
-import sys
+
+import edits
 
 PAGES = ["README.md", *sorted(glob.glob("docs/**/*.md", recursive=True))]
 TEXTS = {page: open(page, encoding="utf-8").read() for page in PAGES}
@@ -115,6 +115,21 @@ def ordered(page):
         return f"its headings are {heads}, and are to be {HEADS}"
 
 
+def unfit(file):
+    """What is wrong with a must-fail edit, or a control, before it is tried: it cannot be applied, or its name is none that it may have."""
+    folder, name = os.path.split(file)
+    crate = os.path.dirname(folder)
+    of = re.fullmatch(r"crates/(?:model|running)_(\w+?)(?:_lock)?", crate)
+    if not os.path.exists(re.sub(r"\.control\.md$", ".edit", file)):
+        return f"{name} is a control of no edit"
+    if of and of[1] in OBJECTS and not name.startswith(tuple(OBJECTS)):
+        return f"{name} does not begin with its object"
+    try:
+        edits.Edit(crate, name)
+    except (edits.BadEdit, OSError) as why:
+        return f"{name}: {why}"
+
+
 def anchors(page):
     """The anchors of the page's headings, as the usual viewers make them."""
     heads = re.findall(r"^#+ (.*)$", TEXTS[page], re.MULTILINE)
@@ -160,11 +175,11 @@ for page in PAGES:
     for code in re.findall(r"^```(?:rust|antt)\n(.*?)^```$", TEXTS[page], re.DOTALL | re.MULTILINE):
         report(page, unmade(code))
 
-edits = {os.path.basename(it) for it in glob.glob("crates/*/must-fail/*.edit")}
-for edit in sorted(set(re.findall(r"`(\w+\.edit)`", "".join(TEXTS.values())))):
-    report(edit, None if edit in edits else "a page names it, and no crate has it")
-listing = subprocess.run([sys.executable, "tools/wrong_bodies.py", "--check"], check=False)
-report("docs/EDITS.md", "it is not what tools/wrong_bodies.py writes" if listing.returncode else None)
+OBJECTS = [crate.removeprefix("crates/model_") for crate in glob.glob("crates/model_*") if os.path.exists(f"{crate}/specs/Table.antt")]
+for crate in sorted(glob.glob("crates/*")):
+    report(crate, next(filter(None, map(unfit, sorted(glob.glob(f"{crate}/must-fail/*")))), None))
+for edit in sorted(set(re.findall(r"`(\w+)\.edit`", "".join(TEXTS.values())))):
+    report(edit, None if glob.glob(f"crates/*/must-fail/{edit}.edit") else "a page names it, and no crate has it")
 
 for page in PAGES:
     for link in re.findall(r"\]\(([^)\s]+)\)", TEXTS[page]):

@@ -1,7 +1,8 @@
-# The launcher, in a repository of two crates whose rt only pretends: it writes a program, and notes each time that it was called.
+# The launcher, in a repository of two crates whose rt and tools/prove.py only pretend: that writes a program, and each notes that it was called.
 test_launch() {
-    local top=$room/top crate low out tool
+    local top=$room/top crate low out tool proves
     crate=$(crate_of sync-play)
+    proves="prove programs=$crate"
     low=${crate}_low
     out=$top/crates/$crate/out
     mkdir -p -- "$room/bin" "$top/tools" "$top/crates/$crate/src" "$top/crates/$low/specs" "$top/crates/other/src"
@@ -11,26 +12,27 @@ test_launch() {
     echo first | tee -- "$top/crates/$crate/"{stdin,src/main.rt} "$top/crates/$low/specs/Lib.antt" "$top/crates/other/src/lib.rt" >/dev/null
     pretend
     local PATH=$room/bin:$PATH
+    export ROOM=$room
 
     tells_usage
     plays_unproved
-    launches "the first build, lowest crate first" "lib run" "building the program; the first time" --build
+    launches "the first build" "$proves" "building the program; the first time" --build
     launches "a later call starts at once" ""
     tells_a_terminal
     launches "a second build does nothing" "" "it is built" --build
     echo second >"$top/crates/$low/specs/Lib.antt"
-    launches "an edit below is built, in silence where it takes seconds" "lib run"
+    launches "an edit below is built, in silence where it takes seconds" "$proves"
     echo second >"$top/crates/other/src/lib.rt"
     launches "an edit of a crate that the program does not stand on is not" ""
     echo "client: $low" >>"$top/crates.txt"
     launches "nor is a line of crates.txt about another crate" ""
     sed -i -- "s/may_wait=1/may_wait=2/" "$top/crates.txt"
-    launches "a line of crates.txt about the program is" "lib run"
+    launches "a line of crates.txt about the program is" "$proves"
     touch -d "+1 day" -- "$top/crates/$crate/src/main.rt"
     launches "a source from the future is not built again" ""
     echo second >"$top/crates/$crate/src/main.rt"
     touch -d "+1 day" -- "$top/crates/$crate/src/main.rt"
-    launches "an edit from the future is built" "lib run"
+    launches "an edit from the future is built" "$proves"
     launches "an edit from the future is built once" ""
     touch -- "$top/crates/$crate/src/main.rt"
     rm -- "$out/built_of"
@@ -39,22 +41,22 @@ echo played' >"$out/$crate"
     launches "what rt ci has built is taken" ""
     advises_a_person
     rm -- "$top/crates/$low/specs/Lib.antt"
-    launches "a source that is gone is built" "lib run"
+    launches "a source that is gone is built" "$proves"
     export PRETENDS=waits
     echo third >"$top/crates/$crate/src/main.rt"
-    launches "a wait for another rt is told" "lib run" "waiting for another rt"
+    launches "a wait for another build is told" "$proves" "waiting for another call"
     export PRETENDS=slow
     echo fourth >"$top/crates/$crate/src/main.rt"
-    launches "a crate that takes seconds is named" "lib run" "building: 1 of 2: $low"
+    launches "a build that takes seconds is told, and how far it is" "$proves" $'building the program\nsync-play: all is proved'
     export PRETENDS=hangs
     echo fifth >"$top/crates/$crate/src/main.rt"
     is_interrupted
     export PRETENDS=fails
     attempt "$top/sync-play" </dev/null
-    judge_line "a failed build" 3 "" "rt: it cannot be proved
-sync-play: the program was not built; all that rt said of $low is in $out/build.log"
+    judge_line "a failed build" 3 "" "FAILED: it cannot be proved
+sync-play: the program was not built; all that was said of it is in $out/build.log"
     unset PRETENDS
-    launches "after a failed build the next call builds" "lib run"
+    launches "after a failed build the next call builds" "$proves"
     rm -r -- "$out"
     touch -- "$out"
     attempt "$top/sync-play" --build </dev/null
@@ -79,8 +81,8 @@ crate_of() {
     done <"$1"
 }
 
-# An rt for test_launch. It plays a text by writing the text's first line to standard output and its second to standard error; its third
-# is the status.
+# An rt and a tools/prove.py for test_launch. The first plays a text by writing the text's first line to standard output and its second to
+# standard error; its third is the status. The second writes a program.
 pretend() {
     cat >"$room/bin/rt" <<'RT'
 #!/usr/bin/env bash
@@ -93,22 +95,32 @@ if [[ $1 == try ]]; then
     echo "run=ended status=$status runners=2 proved=no" >&2
     exit "$status"
 fi
-case ${PRETENDS-} in
-    waits) echo "rt: waiting for another rt to finish in $PWD" >&2 ;;
-    hangs) touch "$(dirname -- "$0")/hangs" && exec sleep 60 ;;
-    slow) [[ $1 == lib ]] && sleep 6 ;;
-    fails) echo "rt: it cannot be proved" && exit 1 ;;
-esac
-if [[ $1 == run ]]; then
-    mkdir -p out
-    printf '%s\n' '#!/bin/sh' 'echo played' >"out/$(basename -- "$PWD")"
-    chmod +x out/*
-fi
 RT
+    cat >"$top/tools/prove.py" <<'PROVE'
+import os, sys, time
+room, how = os.environ["ROOM"], os.environ.get("PRETENDS")
+with open(f"{room}/bin/calls", "a") as calls:
+    print("prove", *sys.argv[1:], file=calls)
+if how == "waits":
+    print("waiting for another call in this checkout to end", flush=True)
+elif how == "slow":
+    time.sleep(6)
+elif how == "hangs":
+    open(f"{room}/bin/hangs", "w").close()
+    time.sleep(60)
+elif how == "fails":
+    sys.exit("FAILED: it cannot be proved")
+print("all is proved", flush=True)
+out = f"crates/{sys.argv[1].partition('=')[2]}/out"
+program = f"{out}/{out.split('/')[1]}"
+with open(program, "w") as it:
+    it.write("#!/bin/sh\necho played\n")
+os.chmod(program, 0o755)
+PROVE
     chmod +x -- "$room/bin/rt"
 }
 
-# One call of the launcher: which commands it gives rt, and a part of what it says, or nothing: launches LABEL COMMANDS [WORDS [ARGUMENT]].
+# One call of the launcher: what it calls, and a part of what it says, or nothing: launches LABEL COMMANDS [WORDS [ARGUMENT]].
 launches() {
     local wanted=played commands
     : >"$room/bin/calls"
@@ -120,7 +132,7 @@ launches() {
     if [[ $status != 0 || $(<"$room/out") != "$wanted" ]]; then
         fail "$1" "it ended with status $status, and wrote: $(<"$room/out") $(<"$room/err")"
     elif [[ $commands != "$2" ]]; then
-        fail "$1" "it called rt for '$commands', and not for '$2'"
+        fail "$1" "it called '$commands', and not '$2'"
     elif [[ -n ${3-} && $(<"$room/err") != *"$3"* || -z ${3-} && -s $room/err ]]; then
         fail "$1" "it said: $(<"$room/err")"
     else
@@ -196,7 +208,14 @@ at_a_terminal() {
     attempt python3 -c 'import os, subprocess, sys
 shown, stderr = os.openpty()
 status = subprocess.run(sys.argv[1], input=sys.argv[2].encode(), stdout=subprocess.DEVNULL, stderr=stderr).returncode
-print(*os.read(shown, 4096).decode().split())
+os.close(stderr)
+said = b""
+try:
+    while piece := os.read(shown, 4096):
+        said += piece
+except OSError:
+    pass  # that is how a terminal ends
+print(*said.decode().split())
 sys.exit(status)' "$top/sync-play" "${3-latch 1}"$'\n'
     judge_line "$1" 2 "$2" ""
 }

@@ -1,35 +1,86 @@
-# Each page of docs/pages is its picture, to step through; and where Chromium is at hand, the page goes as its keys and its address say.
+# Each page of docs/pages is its picture, to step through; and where Chromium is at hand, a page goes as its keys, its address and a click say, every
+# step of each page is in sight at three widths, and a page has one ground in light and in dark.
 test_pages() {
-    local page name
+    local page name width
     for page in docs/pages/*.html; do
         name=$(basename -- "$page" .html)
-        attempt python3 tools/step_page.py <"docs/pictures/$name.svg"
+        attempt python3 tools/step_page.py "$(caption_of "$name")" <"docs/pictures/$name.svg"
         judge "$page" 0 "$page" /dev/null
     done
     if ! command -v chromium >/dev/null; then
         skip pages "no chromium is at hand, so no page was opened"
         return
     fi
-    shows "" "" "step 1" "word 0 counter 0, nobody holds, nobody waits"
-    shows "#10" "" "step 7-10006" "word 3 counter 0, holds 1 reads, nobody waits"
-    shows "#10" "ArrowRight ArrowDown ArrowLeft" "step 10007" "word 3 counter 0, holds 1 reads, nobody waits"
-    shows "#10" "End ArrowRight" "step 10013" "holds 2 writes, nobody waits"
-    shows "#10" "End Home" "step 1" "nobody holds"
+    shows "" "" "step 1" "lock free, counter 0, nobody holds, nobody waits"
+    shows "#10" "" "step 7-10006" "lock 1 reader, mark, counter 0, holds 1 reads, nobody waits"
+    shows "#10" "press('ArrowRight'); press('ArrowDown'); press('ArrowLeft')" "step 10007" "lock 1 reader, mark, counter 0, holds 1 reads, nobody waits"
+    shows "#10" "press('ArrowRight', { altKey: true }); press('Home', { ctrlKey: true }); press('End', { shiftKey: true })" "step 7-10006" "nobody waits"
+    shows "#10" "press('End'); press('ArrowRight')" "step 10013" "<mark>lock write</mark>, counter 1, <mark>holds 2 writes</mark>, nobody waits"
+    shows "#10" "press('End'); press('Home')" "step 1" "nobody holds"
+    shows "" "runs[0].rows[2].group.onclick()" "step 3" "<mark>lock 1 reader</mark>, counter 0, <mark>holds 1 reads</mark>, nobody waits"
+    shows "#3" "told.append([slider.getAttribute('aria-valuetext'), document.querySelector('[aria-current]').getAttribute('aria-label')])" "step 3" \
+        "step 3, line 3, party 1: free → 1 reader (exchange 0 for 2, found 0, done); lock 1 reader, counter 0, holds 1 reads, nobody waits,step 3, line 3"
+    page=docs/pages/rwwriter-lost-wake.html
+    shows "#10008" "" "step 10008" "The Rust crate, 0.10.0: step 10008, line 7, party 1: sees 1 reader, mark" "$page"
+    shows "" "press('End'); press('ArrowLeft'); press('ArrowLeft')" "step 10011" "<mark>waiting: 2</mark>" "$page"
+    shows "" "press('End')" "step 10013" "Hevdzura: step 10013, line 8, party 2: mark → write" "$page"
+    for page in docs/pages/*.html; do
+        for width in 400 800 1400; do
+            is_in_sight "$page" "$width"
+        done
+    done
+    for name in "" --force-dark-mode; do
+        opens docs/pages/rwwriter-last-look.html "document.title = getComputedStyle(document.body).backgroundColor === getComputedStyle(document.querySelector('.paper')).fill" "" $name
+        if grep -qF "<title>true</title>" "$room/out"; then
+            succeed
+        else
+            fail "a page's ground ${name:-in light}" "it is not the picture's"
+        fi
+    done
 }
 
-# A page at an address, once these keys were pressed, shows this step and this state: shows ADDRESS KEYS STEP STATE.
-shows() {
-    local key
+# Opens a page, at an address, once a script has run in it: opens PAGE SCRIPT ADDRESS [FLAG]
+opens() {
     {
-        cat -- docs/pages/rwwriter-last-look.html
-        for key in $2; do
-            echo "<script>dispatchEvent(new KeyboardEvent('keydown', { key: '$key', cancelable: true }))</script>"
-        done
+        cat -- "$1"
+        printf '%s\n' "<script>const press = (key, more) => dispatchEvent(new KeyboardEvent('keydown', { key, cancelable: true, ...more })); $2</script>"
     } >"$room/page.html"
-    attempt chromium --headless --no-sandbox --disable-gpu --user-data-dir="$room/chromium" --dump-dom "file://$room/page.html$1"
-    if ! grep -qF -- "<b id=\"number\">$3</b>" "$room/out" || ! grep -qF -- "$4" <(grep -F 'id="state"' "$room/out"); then
-        fail "a page at '$1' after the keys '$2'" "it does not show $3 and $4: $(grep -F -e 'id="number"' -e 'id="state"' "$room/out")"
+    attempt chromium --headless --no-sandbox --disable-gpu --user-data-dir="$room/chromium" ${4-} --dump-dom "file://$room/page.html$3"
+}
+
+# A page at an address, once a script has run, shows this step and says so: shows ADDRESS SCRIPT STEP WORDS [PAGE]
+shows() {
+    local said
+    opens "${5-docs/pages/rwwriter-last-look.html}" "$2" "$1"
+    said=$(grep -F 'id="told"' "$room/out")
+    if [[ $said != *"<b>$3</b>"* || $(sed 's/<\/\?\(span\|b\)>//g' <<<"$said") != *"$4"* ]]; then
+        fail "a page at '$1' after '$2'" "it does not show $3 and $4: $said"
     else
         succeed
+    fi
+}
+
+# Each step of a page of this width, on and back, has its words below the header and within the page: is_in_sight PAGE WIDTH
+is_in_sight() {
+    echo "<script>onmessage = it => { document.title = it.data }</script><iframe src=page.html width=$2 height=600></iframe>" >"$room/frame.html"
+    {
+        cat -- "$1"
+        cat <<'HTML'
+<script>
+let lost = 0
+const isLost = it => it.top < document.querySelector('header').getBoundingClientRect().bottom || it.bottom > innerHeight || it.left < 0 || it.right > innerWidth
+for (const way of [1, -1]) places.forEach(() => {
+  go(at + way)
+  lost += isLost([...document.querySelectorAll('.now text:first-of-type')].pop().getBoundingClientRect())
+})
+parent.postMessage(`lost ${lost} of ${places.length}`, '*')
+</script>
+HTML
+    } >"$room/page.html"
+    attempt chromium --headless --no-sandbox --disable-gpu --user-data-dir="$room/chromium" --window-size=1500,900 --virtual-time-budget=3000 --dump-dom "file://$room/frame.html"
+    if grep -q "<title>lost 0 of" "$room/out"; then
+        succeed
+    else
+        fail "$1, $2 wide" "$(grep -o "<title>[^<]*" "$room/out")"
     fi
 }

@@ -1,8 +1,8 @@
 //! The lines of the table. A file of this folder has those of one primitive, and of what it is compared with.
 //!
 //! A new line is an `Operation` there, which has its objects, and a function that hands it to `successes`; and here a variant,
-//! its place in `LINES`, its name and its call. The name is said once more in `specs/Lines.antt` and in the tests.
-ghost use Rattle.std.specs.Prelude.{◌≡◌, ◌≤◌};
+//! its place in `LINES`, its name and its call. The name is said once more in the tests.
+ghost use Rattle.std.specs.Prelude.{◌≤◌};
 
 mod atomic;
 mod barrier;
@@ -121,12 +121,8 @@ pub const LINES: [Line; 43] = [
 ];
 
 impl Line {
-    ghost use Rattle.bench_lines.specs.Lines.{name_of};
-
     /// What the table calls it.
-    pub fn name(self) -> &'static str
-        ensures { result.now ≡ name_of self }
-    {
+    pub fn name(self) -> &'static str {
         match self {
             Line::BareExchangeStore => "bare exchange store",
             Line::StdMutexLockUnlock => "std mutex lock unlock",

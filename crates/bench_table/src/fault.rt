@@ -1,5 +1,5 @@
 //! Why a run of the program ended early.
-ghost use Rattle.std.specs.Prelude.{◌≡◌, Some};
+ghost use Rattle.std.specs.Prelude.{◌≡◌};
 
 use std::alloc::{AllocError, AllocFailed};
 use std::fmt;
@@ -22,12 +22,8 @@ pub enum BenchFault {
 }
 
 impl BenchFault {
-    ghost use Rattle.bench_table.specs.Faults.{status_of};
-
     /// The exit status: 2 for a fault of the input, else 1.
-    pub fn status(&self) -> u8
-        ensures { result ≡ status_of self.now }
-    {
+    pub fn status(&self) -> u8 {
         match self {
             BenchFault::Rounds => 2,
             _ => 1,
@@ -36,10 +32,6 @@ impl BenchFault {
 }
 
 impl fmt::Display for BenchFault {
-    ghost use Rattle.bench_table.specs.Faults.{fault_words};
-
-    ghost output = { λ f. Some (fault_words f) };
-
     fn fmt<W: fmt::Write>(&self, f: &mut fmt::Formatter<W>) -> fmt::Result {
         match self {
             BenchFault::Rounds => write!(f, "bad number of rounds"),

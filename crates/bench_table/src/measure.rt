@@ -1,8 +1,4 @@
 //! Runs the lines, and takes the time of each.
-ghost use Rattle.std.specs.Prelude.{◌≡◌, ◌+◌, ◌-◌, ◌*◌, ◌/◌, ◌^◌, min, map, IfOk, IfErr, OnOk};
-ghost use Rattle.std.specs.Duration.{as_nanos};
-ghost use Rattle.bench_table.specs.Columns.{shape, shapes, with_figures, one_more, lines_at};
-ghost use Rattle.bench_table.specs.Faults.{EndsMeasuring};
 
 use crate::fault::BenchFault;
 use bench_lines::lines::{LINES, Line, OPERATIONS};
@@ -18,17 +14,13 @@ pub struct Column {
 }
 
 /// The hundredths of a nanosecond that an operation took, rounded down, where a round took this long.
-fn hundredths(spent: Duration) -> u64
-    ensures { result ≡ min (as_nanos spent * 100 / OPERATIONS) (2 ^ 64 - 1) }
-{
+fn hundredths(spent: Duration) -> u64 {
     let figure = spent.as_nanos() * 100 / u128::from(OPERATIONS);
     u64::try_from(figure).unwrap_or(u64::MAX)
 }
 
 /// Runs a line once, and tells its figure. Nothing is promised of how long a run takes.
-fn figure(rt: &(impl Clock + Wait), alloc: Global, line: Line) -> Result<u64, BenchFault>
-    ensures { IfErr result EndsMeasuring }
-{
+fn figure(rt: &(impl Clock + Wait), alloc: Global, line: Line) -> Result<u64, BenchFault> {
     let start = Instant::now(rt).map_err(|_| BenchFault::Clock)?;
     let successes = line.run(rt, alloc)?;
     let spent = start.elapsed(rt).map_err(|_| BenchFault::Clock)?;
@@ -39,9 +31,7 @@ fn figure(rt: &(impl Clock + Wait), alloc: Global, line: Line) -> Result<u64, Be
 }
 
 /// A column for each of these lines, with room for its figures, so that no round takes memory.
-fn empty_columns(alloc: Global, lines: &[Line], rounds: usize) -> Result<Vec<Column>, AllocError>
-    ensures { IfOk result (λ columns. shapes columns.items ≡ with_figures 0 lines.now) }
-{
+fn empty_columns(alloc: Global, lines: &[Line], rounds: usize) -> Result<Vec<Column>, AllocError> {
     let mut columns = Vec::new(alloc);
     for &line in lines {
         let figures = Vec::with_capacity(alloc, rounds)?;
@@ -55,10 +45,7 @@ fn add_figure(
     rt: &(impl Clock + Wait),
     alloc: Global,
     column: &mut Column,
-) -> Result<(), BenchFault>
-    ensures ok { OnOk result (shape column.new ≡ one_more (shape column.old)) }
-    ensures err { IfErr result EndsMeasuring }
-{
+) -> Result<(), BenchFault> {
     let figure = figure(rt, alloc, column.line)?;
     column.figures.push(figure)?;
     Ok(())
@@ -69,10 +56,7 @@ fn one_round(
     rt: &(impl Clock + Wait),
     alloc: Global,
     columns: &mut [Column],
-) -> Result<(), BenchFault>
-    ensures ok { OnOk result (shapes columns.new ≡ map one_more (shapes columns.old)) }
-    ensures err { IfErr result EndsMeasuring }
-{
+) -> Result<(), BenchFault> {
     for column in columns.iter_mut() {
         add_figure(rt, alloc, column)?;
     }
@@ -84,10 +68,7 @@ pub fn measured(
     rt: &(impl Clock + Wait),
     alloc: Global,
     rounds: u64,
-) -> Result<Vec<Column>, BenchFault>
-    ensures ok { IfOk result (λ columns. shapes columns.items ≡ lines_at rounds) }
-    ensures err { IfErr result EndsMeasuring }
-{
+) -> Result<Vec<Column>, BenchFault> {
     let mut columns = empty_columns(alloc, &LINES, rounds as usize)?;
     for _ in 0..rounds {
         one_round(rt, alloc, &mut columns)?;

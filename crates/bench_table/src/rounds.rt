@@ -1,5 +1,4 @@
 //! The number of rounds that the input asks for.
-ghost use Rattle.bench_table.specs.Rounds.{IsAskedBy};
 
 use crate::fault::BenchFault;
 
@@ -8,9 +7,7 @@ pub const MOST_ROUNDS: u64 = 100_000;
 
 /// The number of rounds that a text asks for: decimal digits, with ASCII white space around them. As everywhere in the library,
 /// a plus may stand before the digits.
-pub fn rounds(text: &[u8]) -> Result<u64, BenchFault>
-    ensures { IsAskedBy text.now result }
-{
+pub fn rounds(text: &[u8]) -> Result<u64, BenchFault> {
     let Ok(word) = str::from_utf8(text.trim_ascii()) else {
         return Err(BenchFault::Rounds);
     };

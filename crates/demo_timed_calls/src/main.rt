@@ -2,7 +2,7 @@
 #![tactic(auto)]
 
 ghost use Rattle.running_mutex.specs.MutexShown.{IsMutexPass, HasStayed};
-ghost use Rattle.running_mutex.specs.CondShown as condvars;
+ghost use Rattle.running_condvar.specs.CondShown as condvars;
 ghost use Rattle.job_queue.specs.QueueShown as queues;
 
 use iceoryx2_pal_concurrency_sync::strategy::condition_variable::{

@@ -1,6 +1,6 @@
 -- To which pool passes belong.
 use Rattle.running_guarded.specs.GuardedShown.{IsGuardedPass}
-use Rattle.running_mutex.specs.CondShown.{IsCondPass}
+use Rattle.running_condvar.specs.CondShown.{IsCondPass}
 use Rattle.demo_waiting_pool.specs.declared.Pool.{Pool}
 use Rattle.demo_waiting_pool.specs.declared.Passes.{Passes}
 

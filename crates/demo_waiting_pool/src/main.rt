@@ -9,8 +9,8 @@ ghost use Rattle.demo_waiting_pool.specs.Passes.{IsOf};
 
 use circular_buffer::HeapCircularBuffer;
 use running_closures::Sleepers;
+use running_condvar::{CondPass, ConditionVariable};
 use running_guarded::{Guarded, GuardedPass};
-use running_mutex::condition_variable::{CondPass, ConditionVariable};
 use running_passes::WaitResult;
 use running_tallies::WaitWord;
 use std::alloc::{AllocError, Global};

@@ -76,7 +76,7 @@ pub fn reach_of<T: Copy>(act: &Act<T>) -> Option<Reach> {
     }
 }
 
-/// How a call has ended or stands, if it does not go on.
+/// How a call has ended or waits, if it does not go on.
 pub fn tone_of<T: Copy>(then: &Then<T>) -> Option<Tone> {
     match then {
         Then::GoesOn => None,
@@ -227,11 +227,12 @@ pub fn label_of<T: TextInteger>(
     Ok(out)
 }
 
-/// Says how the call of a step then stands, or what it answers.
+/// Says that the call of a step then waits or chooses, or what it answers.
 fn say_outcome<T: TextInteger>(out: &mut String, then: &Then<T>) -> Result<(), AllocError> {
     match *then {
         Then::GoesOn => Ok(()),
-        Then::Waits(_) | Then::Chooses(_) => out.push_str("stands"),
+        Then::Waits(_) => out.push_str("waits"),
+        Then::Chooses(_) => out.push_str("chooses"),
         Then::Answers(answer) => {
             if tone_of(then) == Some(Tone::Refused) {
                 out.push_str("✕ ")?;
@@ -241,7 +242,7 @@ fn say_outcome<T: TextInteger>(out: &mut String, then: &Then<T>) -> Result<(), A
     }
 }
 
-/// How the call of a step then stands, or what it answers; nothing where it goes on.
+/// That the call of a step then waits or chooses, or what it answers; nothing where it goes on.
 pub fn outcome_of<T: TextInteger>(alloc: Global, then: &Then<T>) -> Result<String, AllocError> {
     let mut out = String::new(alloc);
     say_outcome(&mut out, then)?;

@@ -52,7 +52,7 @@ pub fn band_name<T>(object: &Object<T>, shown: Shown) -> &'static str {
 pub fn name_of<T>(object: &Object<T>, word: Word) -> &'static str {
     match word {
         Word::State => state_name(object),
-        Word::Counter => "wakes",
+        Word::Counter => "counter",
         Word::Waiters => "waiters",
         Word::Value => "permits",
         Word::Low => "low half",

@@ -76,7 +76,7 @@ fn draw_stand(
         20,
         bottom.saturating_sub(top),
     )?;
-    put_titled(alloc, picture, area, "stands at its closure")
+    put_titled(alloc, picture, area, "waits at its closure")
 }
 
 /// Draws a hold.

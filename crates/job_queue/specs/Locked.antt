@@ -9,7 +9,7 @@ use Rattle.running_model.specs.Passes.{parties_of}
 use Rattle.running_tallies.specs.Mutex.{mutex_model}
 use Rattle.running_mutex.specs.MutexParties.{Unlocks}
 use Rattle.running_mutex.specs.MutexShown.{MutexPass, HasStayed, grants_of}
-use Rattle.running_mutex.specs.Often.{Often}
+use Rattle.running_condvar.specs.Often.{Often}
 use Rattle.running_spin_lock.specs.Spin.{SpinView}
 use Rattle.running_spin_lock.specs.SpinSteps as spins
 

@@ -4,15 +4,15 @@ use Rattle.running_passes.specs.Views.{left_view, right_view, joined_view}
 use Rattle.running_model.specs.Passes.{parties_of, core_played, both_played}
 use Rattle.running_tallies.specs.Mutex.{no_holds, both_holds}
 use Rattle.running_tallies.specs.Semaphore.{no_permits, both_permits}
-use Rattle.running_mutex.specs.Cond.{no_waits, both_waits}
+use Rattle.running_condvar.specs.Cond.{no_waits, both_waits}
 use Rattle.running_spin_lock.specs.ValueRule.{core_held, both_held}
-use Rattle.running_mutex.specs.Often.{Often, HasWaitedOften}
+use Rattle.running_condvar.specs.Often.{Often, HasWaitedOften}
 use Rattle.running_mutex.specs.MutexShown as mutexes
-use Rattle.running_mutex.specs.CondShown as conds
+use Rattle.running_condvar.specs.CondShown as conds
 use Rattle.running_spin_lock.specs.SpinShown as spins
 use Rattle.running_spin_lock.specs.SpinSteps.{HasPlayedBoth}
 use Rattle.model_events.specs.declared.event.Call.{Call}
-use Rattle.running_mutex.specs.declared.condition_variable.CondPass.{CondPass}
+use Rattle.running_condvar.specs.declared.CondPass.{CondPass}
 use Rattle.running_spin_lock.specs.declared.pass.SpinPass.{SpinPass}
 use Rattle.running_passes.specs.Passes as passes
 use Rattle.running_passes.specs.Parts.{half, IsWhole, IsSamePart, IsAgain, AddUp}

@@ -3,8 +3,8 @@ ghost use Rattle.std.specs.Prelude.{◌≡◌, IfOk, is_ok, true};
 ghost use Rattle.running_mutex.specs.MutexShown.{holds_of};
 
 use crate::queue::JobQueue;
+use running_condvar::CondPass;
 use running_mutex::MutexPass;
-use running_mutex::condition_variable::CondPass;
 use running_sharing::Shares;
 use running_spin_lock::SpinPass;
 use std::alloc::Allocator;

@@ -20,12 +20,12 @@ ghost use Rattle.model_atomic.specs.Register.{act_of as outcome_of, compared, pl
 ghost use Rattle.running_atomic.specs.AtomicRule.{act_in, value_of, IsWritten};
 ghost use Rattle.running_atomic.specs.AtomicSteps.{IsReading, IsSettled, IfWriting, IsStoring, ActsAt};
 
-use crate::begins::FetchUpdateCall;
 use crate::calls::Atomic;
 use crate::history::{AtomicAct, Content};
 use crate::steps::{Comparison, Going, PlayedPass};
 use model_events::atomic::internal::AtomicInteger;
 use model_events::event::Call;
+use running_model::calls::FetchUpdateCall;
 use running_model::turn::{Called, Choice, Chooses, Chosen, Nothing, Turn, TurnWith, Way};
 use std::alloc::Allocator;
 use std::marker::Brand;

@@ -5,24 +5,6 @@ ghost use Rattle.running_atomic.specs.declared.history.AtomicAct.TheVariants as 
 use running_model::turn::Called;
 use std::marker::Brand;
 
-/// A `Load`.
-pub(crate) struct LoadCall;
-
-impl<T> Called<T> for LoadCall {
-    ghost use Rattle.model_events.specs.declared.event.Call.TheVariants as calls;
-
-    ghost call = { calls.Load };
-}
-
-/// A `FetchUpdate`.
-pub(crate) struct FetchUpdateCall;
-
-impl<T> Called<T> for FetchUpdateCall {
-    ghost use Rattle.model_events.specs.declared.event.Call.TheVariants as calls;
-
-    ghost call = { calls.FetchUpdate };
-}
-
 /// An act of the history: with `Brand` its caller picks it.
 pub(crate) trait Acts {
     ghost act: { AtomicAct };

@@ -14,12 +14,13 @@ ghost use Rattle.model_events.specs.Moves.{CallValues};
 ghost use Rattle.running_passes.specs.Views.{looked};
 ghost use Rattle.running_atomic.specs.AtomicSteps.{EntersRead, EntersWrite, Leaves, ReadsLow, ReadsHigh, EndsLoad, EndsStore, EndsUnchanged, StoresLow, Settles, IsReading, IsSettled, IsWriting, IsOn, IsRight, KeepsOthers, ComparesHigh, IsComparing, IsStoring};
 
-use crate::begins::{Acts, Compares, LoadCall};
+use crate::begins::{Acts, Compares};
 use crate::calls::Atomic;
 use crate::history::AtomicAct;
 use crate::script::PlayedAtomic;
 use model_events::atomic::internal::AtomicInteger;
 use model_events::event::Call;
+use running_model::calls::LoadCall;
 use running_model::turn::{Called, Chooses, Goes, Nothing, Turn, Way, begin_new};
 use running_passes::Pass;
 use std::alloc::Allocator;

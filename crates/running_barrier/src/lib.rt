@@ -15,7 +15,8 @@ mod shares;
 
 use model_barrier::{BarrierPlace, arrived, count_of, epoch_of};
 use model_events::SPIN_REPETITIONS;
-use running_model::turn::{Called, Goes, Turn, Way, begin_new};
+use running_model::calls::WaitCall;
+use running_model::turn::{Goes, Turn, Way, begin_new};
 use running_model::{Sealed, Stage};
 use running_passes::{Origin, Pass};
 use running_tallies::{BarrierScript, PlayedBarrier, Rounds, WaitWord};
@@ -53,15 +54,6 @@ pub type BarrierPass = Pass<PlayedBarrier>;
 /// No more can arrive: the barrier was made for 0.
 #[derive(Clone, Copy, Debug, PartialEq, Eq)]
 pub struct BarrierFull;
-
-/// A `Wait`.
-struct WaitCall;
-
-impl Called<u64> for WaitCall {
-    ghost use Rattle.model_events.specs.declared.event.Call.TheVariants as calls;
-
-    ghost call = { calls.Wait };
-}
 
 impl<A: Allocator> Barrier<A> {
     ghost use Rattle.std.specs.Prelude.{true, false, ◌+◌, ◌%◌, ◌^◌, ◌≢◌, [], ◌∷◌, MatchBool, IfErr, is_ok, Some, List};

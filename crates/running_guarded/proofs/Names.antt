@@ -25,6 +25,6 @@ pub use Rattle.std.proofs.Math.Nat.{ℕ_set}
 pub use Rattle.std.proofs.Math.Bridge.{le_prop}
 pub use base.Stored.{Coded-set}
 pub use Rattle.running_guarded.specs.declared.guard.Guard.{Guard}
-pub use Rattle.running_mutex.proofs.Often.{waits_again, waits_no_more}
-pub use Rattle.running_mutex.specs.Often.{HasWaitedOften}
+pub use Rattle.running_condvar.proofs.Often.{waits_again, waits_no_more}
+pub use Rattle.running_condvar.specs.Often.{HasWaitedOften}
 pub use Rattle.running_passes.specs.Views.{joined_view}

@@ -8,7 +8,7 @@ pub use Rattle.running_model.specs.Slots.{Parties, Slot, all_of}
 pub use Rattle.running_model.specs.Tries.{spun, IsGranted, IsRefused, IsStanding, OnceStanding, OnceRefused}
 pub use Rattle.running_mutex.specs.MutexParties.{Unlocks, HasMutex}
 pub use Rattle.running_mutex.specs.MutexShown.{IsLocked}
-pub use Rattle.running_mutex.specs.Often.{Often}
+pub use Rattle.running_condvar.specs.Often.{Often}
 pub use Rattle.running_spin_lock.specs.ValueRule.{HasOneHolder, GrantsAreOfARunOf, view_in, both_held}
 pub use Rattle.running_spin_lock.specs.ValueSteps.{Locks, Lets, Enters, Sees, OnlySees, has_vacant_slot}
 pub use Rattle.std.specs.Borrow.{MutBor, GName, Bor}

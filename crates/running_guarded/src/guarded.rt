@@ -28,6 +28,7 @@ use atomic_table::{Seat, Table};
 use model_events::{SPIN_REPETITIONS, WaitAction};
 use model_mutex::MutexPlace;
 use running_model::Sealed;
+use running_model::calls::{LockCall, TryLockCall, UnlockCall};
 use running_model::seat::{SeatAnswered, SeatTurn, begin_new};
 use running_model::turn::{Called, Goes, Way};
 use running_passes::{View, WaitResult};
@@ -45,27 +46,6 @@ pub struct Guarded<T, A: Allocator = Global> {
     pub(crate) table: Table<Option<T>, View<PlayedMutex>, (), ValueRule, A>,
     ghost one_word: { table.shared.table_id.words ≡ 1 },
     ghost one_slot: { table.shared.table_id.slots ≡ 1 },
-}
-
-/// A `TryLock`.
-struct TryLockCall;
-
-impl Called<u64> for TryLockCall {
-    ghost call = { calls.TryLock };
-}
-
-/// A `Lock`.
-struct LockCall;
-
-impl Called<u64> for LockCall {
-    ghost call = { calls.Lock };
-}
-
-/// An `Unlock`.
-struct UnlockCall;
-
-impl Called<u64> for UnlockCall {
-    ghost call = { calls.Unlock };
 }
 
 impl<T, A: Allocator> Guarded<T, A> {

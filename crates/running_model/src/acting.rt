@@ -29,10 +29,10 @@ impl<K, P, V, M: Script<K, P, V>, C: CountsByActs<K, M, P, V>, W: Way<V>> Deed<
 
 impl<'p, M, P, V, C, W> Turn<'p, Pass<Played<M, P, V, C>>, W> {
     ghost use Rattle.model_events.specs.declared.row.Intent.TheVariants as intents;
-    ghost use Rattle.running_passes.specs.Passes.{view, IsSamePass};
-    ghost use Rattle.running_model.specs.Plays.{MayStep, Went, WentBy};
-    ghost use Rattle.running_model.specs.Passes.{parties_of, counts_of, Acted, HasNeeds};
-    ghost use Rattle.running_model.specs.Stages.{IsPassOf, key_of, count_of};
+    ghost use Rattle.running_passes.specs.Passes.{IsSamePass};
+    ghost use Rattle.running_model.specs.Plays.{MayStep};
+    ghost use Rattle.running_model.specs.Passes.{parties_of, counts_of, HasNeeds};
+    ghost use Rattle.running_model.specs.Stages.{IsPassOf, SteppedOn, key_of, count_of};
 
     /// The load that the table has.
     #[inline(always)]
@@ -51,9 +51,7 @@ impl<'p, M, P, V, C, W> Turn<'p, Pass<Played<M, P, V, C>>, W> {
         requires needs { HasNeeds M.names word C.needs (λ w. intents.Load w) (counts_of self.pass.now) }
         ensures same_borrow { result.1.pass.ghost_name ≡ self.entry.pass.ghost_name }
         ensures same { IsSamePass self.entry.pass.now result.1.pass.now }
-        ensures went { Went (M.model (key_of at.now)) W.coming (parties_of self.entry.pass.now) result.0 (parties_of result.1.pass.now) }
-        ensures by { WentBy (M.model (key_of at.now)) W.coming (parties_of self.entry.pass.now) result.0 (parties_of result.1.pass.now) }
-        ensures acted { Acted (M.model (key_of at.now)) C.add (C.follow (key_of at.now)) C.sees (C.after (key_of at.now)) W.coming (view self.entry.pass.now) result.0 (view result.1.pass.now) }
+        ensures stepped { SteppedOn M.model C.add C.follow C.sees C.after W.coming at.now self.entry.pass.now result.0 result.1.pass.now }
     {
         let Turn { pass, by: _ } = self;
         let found = at.words.load::<StepByAct<M, P, V, W>>(pass, word);
@@ -82,9 +80,7 @@ impl<'p, M, P, V, C, W> Turn<'p, Pass<Played<M, P, V, C>>, W> {
         requires needs { HasNeeds M.names word C.needs (λ w. intents.Store w put) (counts_of self.pass.now) }
         ensures same_borrow { result.pass.ghost_name ≡ self.entry.pass.ghost_name }
         ensures same { IsSamePass self.entry.pass.now result.pass.now }
-        ensures went { Went (M.model (key_of at.now)) W.coming (parties_of self.entry.pass.now) put (parties_of result.pass.now) }
-        ensures by { WentBy (M.model (key_of at.now)) W.coming (parties_of self.entry.pass.now) put (parties_of result.pass.now) }
-        ensures acted { Acted (M.model (key_of at.now)) C.add (C.follow (key_of at.now)) C.sees (C.after (key_of at.now)) W.coming (view self.entry.pass.now) put (view result.pass.now) }
+        ensures stepped { SteppedOn M.model C.add C.follow C.sees C.after W.coming at.now self.entry.pass.now put result.pass.now }
     {
         let Turn { pass, by: _ } = self;
         at.words.store::<StepByAct<M, P, V, W>>(pass, word, put);
@@ -113,9 +109,7 @@ impl<'p, M, P, V, C, W> Turn<'p, Pass<Played<M, P, V, C>>, W> {
         requires needs { HasNeeds M.names word C.needs (λ w. intents.Exchange w from to) (counts_of self.pass.now) }
         ensures same_borrow { result.1.pass.ghost_name ≡ self.entry.pass.ghost_name }
         ensures same { IsSamePass self.entry.pass.now result.1.pass.now }
-        ensures went { Went (M.model (key_of at.now)) W.coming (parties_of self.entry.pass.now) result.0 (parties_of result.1.pass.now) }
-        ensures by { WentBy (M.model (key_of at.now)) W.coming (parties_of self.entry.pass.now) result.0 (parties_of result.1.pass.now) }
-        ensures acted { Acted (M.model (key_of at.now)) C.add (C.follow (key_of at.now)) C.sees (C.after (key_of at.now)) W.coming (view self.entry.pass.now) result.0 (view result.1.pass.now) }
+        ensures stepped { SteppedOn M.model C.add C.follow C.sees C.after W.coming at.now self.entry.pass.now result.0 result.1.pass.now }
     {
         let Turn { pass, by: _ } = self;
         let found = at
@@ -146,9 +140,7 @@ impl<'p, M, P, V, C, W> Turn<'p, Pass<Played<M, P, V, C>>, W> {
         requires needs { HasNeeds M.names word C.needs (λ w. intents.Add w more) (counts_of self.pass.now) }
         ensures same_borrow { result.1.pass.ghost_name ≡ self.entry.pass.ghost_name }
         ensures same { IsSamePass self.entry.pass.now result.1.pass.now }
-        ensures went { Went (M.model (key_of at.now)) W.coming (parties_of self.entry.pass.now) result.0 (parties_of result.1.pass.now) }
-        ensures by { WentBy (M.model (key_of at.now)) W.coming (parties_of self.entry.pass.now) result.0 (parties_of result.1.pass.now) }
-        ensures acted { Acted (M.model (key_of at.now)) C.add (C.follow (key_of at.now)) C.sees (C.after (key_of at.now)) W.coming (view self.entry.pass.now) result.0 (view result.1.pass.now) }
+        ensures stepped { SteppedOn M.model C.add C.follow C.sees C.after W.coming at.now self.entry.pass.now result.0 result.1.pass.now }
     {
         let Turn { pass, by: _ } = self;
         let found = at
@@ -179,9 +171,7 @@ impl<'p, M, P, V, C, W> Turn<'p, Pass<Played<M, P, V, C>>, W> {
         requires needs { HasNeeds M.names word C.needs (λ w. intents.Subtract w less) (counts_of self.pass.now) }
         ensures same_borrow { result.1.pass.ghost_name ≡ self.entry.pass.ghost_name }
         ensures same { IsSamePass self.entry.pass.now result.1.pass.now }
-        ensures went { Went (M.model (key_of at.now)) W.coming (parties_of self.entry.pass.now) result.0 (parties_of result.1.pass.now) }
-        ensures by { WentBy (M.model (key_of at.now)) W.coming (parties_of self.entry.pass.now) result.0 (parties_of result.1.pass.now) }
-        ensures acted { Acted (M.model (key_of at.now)) C.add (C.follow (key_of at.now)) C.sees (C.after (key_of at.now)) W.coming (view self.entry.pass.now) result.0 (view result.1.pass.now) }
+        ensures stepped { SteppedOn M.model C.add C.follow C.sees C.after W.coming at.now self.entry.pass.now result.0 result.1.pass.now }
     {
         let Turn { pass, by: _ } = self;
         let found = at

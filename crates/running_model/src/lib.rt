@@ -4,6 +4,7 @@
 
 mod acting;
 mod calling;
+pub mod calls;
 mod carries;
 mod choosing;
 mod counts;

@@ -1,19 +1,13 @@
 -- What the proofs of this crate read of others, and of its own definitions.
-pub use Rattle.running_mutex.specs.Names.{Call, Answer, Bor, Shared, WaitAction, IsWhole, part_of, counts_of, gave, HasGivenUp, Word, Intent, Coming, MayStep, Parties, View, looked, wrote, view, parties_of, IsShare, Told, sights_after, Beginning, ComesBy, Went, Slot, all_of, mutex_model, HoldKind, spun, MutexPlace, IsRefused, mutex_table, IsSamePass, counted, sum_of, no_holds, both_holds, holds_after, AreHoldsIn, none_played, both_played, core_played, played_add_up, mutex_intent, IsNamed, Continuing, IsHolding, Led, HasCalled, IsGranted, MayTry, IsToWake, sights_of, HasAsked, HasMoved, WasRefused, WasRefusedAt, Holds, min}
-pub use Rattle.running_mutex.specs.CondParties.{IsInside, IsOut, Plays}
-pub use Rattle.running_mutex.specs.Cond.{WaitsPass, both_waits, went_in, went_out, waits_after, AreWaitsIn, CountIsInside, waiters_model}
-pub use Rattle.running_mutex.specs.CondShown.{waits_in, permits_in, HasPlayedCount, HasNotified, HasGiven, TakesNone, HasSlept, HasLeft, HasRegained}
+pub use Rattle.running_mutex.specs.Names.{Call, Answer, Bor, Shared, WaitAction, IsWhole, part_of, HasGivenUp, Word, Intent, Coming, MayStep, Parties, View, view, parties_of, IsShare, Told, sights_after, Beginning, ComesBy, Went, Slot, all_of, mutex_model, HoldKind, spun, MutexPlace, IsRefused, mutex_table, IsSamePass, counted, sum_of, no_holds, both_holds, holds_after, AreHoldsIn, none_played, both_played, core_played, played_add_up, mutex_intent, IsNamed, Continuing, IsHolding, Led, HasCalled, IsGranted, MayTry, IsToWake, sights_of, HasAsked, HasMoved, WasRefused, WasRefusedAt, Holds}
 pub use Rattle.running_mutex.specs.MutexParties.{HasMutex, Unlocks}
-pub use Rattle.running_mutex.specs.MutexShown.{MutexPass, IsLocked, HasEntered, HasUnlocked, HasPlayed, HasLocked, HasSeenLocked, HasTried, IsAlone, HasPlayedUnlock, holds_of, holds_of as holds_of_pass, Enters, pass_of}
-pub use Rattle.running_mutex.specs.declared.condition_variable.CondPass.{CondPass}
+pub use Rattle.running_mutex.specs.MutexShown.{MutexPass, IsLocked, HasEntered, HasUnlocked, HasPlayed, HasLocked, HasSeenLocked, HasTried, IsAlone, HasPlayedUnlock, holds_of, holds_of as holds_of_pass, Enters}
 pub use Rattle.running_model.proofs.Over.{is_over, either_is_over}
-pub use Rattle.running_model.proofs.Steps.{told_so, found_there, zero_or_not}
+pub use Rattle.running_model.proofs.Steps.{told_so, zero_or_not}
 pub use Rattle.running_model.proofs.Words.{hold_at}
-pub use Rattle.running_model.specs.Counts.{HasSeen, HasDone}
-pub use Rattle.running_model.specs.Turns.{IsOver, IsOverAside}
-pub use Rattle.running_semaphore.specs.SemaphoreShown.{SemPass, HasTaken, HasPlayedPost, initial_of}
+pub use Rattle.running_model.specs.Turns.{IsOverAside}
 pub use Rattle.running_tallies.proofs.OneHold.{tried_alone, IsTry, tried}
 pub use Rattle.running_tallies.specs.Mutex.{mutex_is_for_one, holds_add_up, word_is_held}
-pub use Rattle.std.proofs.Common.{◌≡◌, ℕ, ◌<◌, Bool, true, false, MatchBool, ◌⊎◌, subst, arith, ◌≢◌, ◌+◌, ◌-◌, ◌%◌, ◌^◌, [], ◌∷◌, sym, refl, ap, ◌∙◌, List, None, Some, ◌==◌, suc}
+pub use Rattle.std.proofs.Common.{◌≡◌, ℕ, Bool, true, false, MatchBool, subst, arith, ◌≢◌, ◌+◌, [], ◌∷◌, sym, refl, ap, ◌∙◌, List, None, Some, ◌==◌}
 pub use Rattle.std.proofs.lemmas.Bool.{eqb-true, eqb-false, ne_eqb, MatchBool-at_true, MatchBool-at_false, true≢false}
 pub use Rattle.std.proofs.lemmas.Bool.Decides.{nat_tests}

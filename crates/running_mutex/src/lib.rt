@@ -11,12 +11,11 @@ ghost use Rattle.running_model.specs.Stages.{count_of};
 ghost use Rattle.running_mutex.specs.MutexParties.{HasMutex};
 ghost use Rattle.running_mutex.specs.MutexSteps.{GrantsAreOfARun, OneHolder};
 
-pub mod condition_variable;
 mod shares;
-mod waits;
 
 use model_events::WaitAction;
 use model_mutex::{MutexPlace, granted};
+use running_model::calls::{LockCall, TryLockCall, UnlockCall};
 use running_model::turn::{
     Attempt, Called, Continues, Goes, Turn, Way, begin_held, begin_new, try_again,
 };
@@ -54,36 +53,10 @@ pub type MutexPass = Pass<PlayedMutex>;
 /// The mutex is locked by this pass, which is lent to the hold. A hold must be spent, by `Mutex::unlock` at the mutex that it came
 /// from.
 pub struct MutexHold<'p> {
-    pass: &'p mut MutexPass,
+    /// For the condition variable, which takes it out and builds the hold anew.
+    pub pass: &'p mut MutexPass,
     ghost on: { (counts_of pass.now).holds ≡ 1 },
     ghost has: { HasMutex (parties_of pass.now) },
-}
-
-/// A `TryLock`.
-struct TryLockCall;
-
-impl Called<u64> for TryLockCall {
-    ghost use Rattle.model_events.specs.declared.event.Call.TheVariants as calls;
-
-    ghost call = { calls.TryLock };
-}
-
-/// A `Lock`.
-struct LockCall;
-
-impl Called<u64> for LockCall {
-    ghost use Rattle.model_events.specs.declared.event.Call.TheVariants as calls;
-
-    ghost call = { calls.Lock };
-}
-
-/// An `Unlock`.
-struct UnlockCall;
-
-impl Called<u64> for UnlockCall {
-    ghost use Rattle.model_events.specs.declared.event.Call.TheVariants as calls;
-
-    ghost call = { calls.Unlock };
 }
 
 impl<A: Allocator> Mutex<A> {

@@ -1,7 +1,6 @@
 //! Its pass can be parted, for many threads.
 ghost use Rattle.std.specs.Prelude.{◌≡◌};
 
-use crate::condition_variable::{CondPass, ConditionVariable};
 use crate::{Mutex, MutexPass};
 use running_sharing::Shares;
 use std::alloc::Allocator;
@@ -23,30 +22,6 @@ impl<A: Allocator> Shares<Mutex<A>> for MutexPass {
 
     fn mend(one: MutexPass, other: MutexPass, of: &Mutex<A>) -> MutexPass {
         let Ok(pass) = MutexPass::join(one, other, of) else {
-            unreachable!()
-        };
-        pass
-    }
-}
-
-impl<A: Allocator> Shares<ConditionVariable<A>> for CondPass {
-    ghost use Rattle.running_passes.specs.Passes.{part_of};
-    ghost use Rattle.running_mutex.specs.CondShown.{IsCondPass, waits_in, permits_in};
-
-    // It is the same part of both passes inside.
-    ghost idle = { λ condvar p. IsCondPass condvar p × (part_of (permits_in p) ≡ part_of (waits_in p)) };
-
-    ghost part = { λ p. part_of (waits_in p) };
-
-    fn cut(self, of: &ConditionVariable<A>) -> (CondPass, CondPass) {
-        let Ok(parts) = self.split(of) else {
-            unreachable!()
-        };
-        parts
-    }
-
-    fn mend(one: CondPass, other: CondPass, of: &ConditionVariable<A>) -> CondPass {
-        let Ok(pass) = CondPass::join(one, other, of) else {
             unreachable!()
         };
         pass

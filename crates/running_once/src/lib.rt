@@ -13,6 +13,7 @@ ghost use Rattle.running_once.specs.OnceLaws.{DoneComesAfterTheEnd, TrueComesAft
 mod shares;
 
 use model_once::{OncePlace, begun};
+use running_model::calls::{CallOnceCall, IsCompletedCall};
 use running_model::turn::{Called, Goes, Turn, Way, begin_new};
 use running_model::{Counts, CountsByActs, Played, Script, Stage};
 use running_passes::{Pass, Rule, Tally};
@@ -131,24 +132,6 @@ impl<Y> Ran<Y> {
     {
         &self.given
     }
-}
-
-/// A `CallOnce`.
-struct CallOnceCall;
-
-impl Called<u64> for CallOnceCall {
-    ghost use Rattle.model_events.specs.declared.event.Call.TheVariants as calls;
-
-    ghost call = { calls.CallOnce };
-}
-
-/// An `IsCompleted`.
-struct IsCompletedCall;
-
-impl Called<u64> for IsCompletedCall {
-    ghost use Rattle.model_events.specs.declared.event.Call.TheVariants as calls;
-
-    ghost call = { calls.IsCompleted };
 }
 
 impl OncePass {

@@ -4,11 +4,9 @@
 //! unlocked, by `end_read_hold` or `end_write_hold`. These are for the locks alone: who holds one spends it by `unlock`.
 #![tactic(auto)]
 
-mod calls;
 mod hold;
 mod reading;
 
-pub use calls::{ReadCall, TryReadCall, TryWriteCall, UnlockCall, WriteCall};
 pub use hold::{
     ReadHold, RwHold, RwPass, WriteHold, end_read_hold, end_write_hold, read_hold, write_hold,
 };

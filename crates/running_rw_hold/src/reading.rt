@@ -22,8 +22,8 @@ ghost use Rattle.running_tallies.specs.Shown.{object_shown, index_shown};
 ghost use Rattle.running_rw_hold.specs.RwShown.{TurnsAway};
 ghost use Rattle.running_rw_hold.specs.RwReading.{HasLookedOnce, HasLooked, MayLook, MayEnter, HasLookedAt, HasTriedToEnter, HasReadFrom, HasSeenLast};
 
-use crate::calls::{ReadCall, TryReadCall};
 use model_events::WaitAction;
+use running_model::calls::{ReadCall, TryReadCall};
 use running_model::turn::{Attempt, Called, Goes, Turn, Way, begin_new, try_again};
 use running_model::{Played, Script, Sealed};
 use running_passes::Pass;

@@ -4,8 +4,9 @@ ghost use Rattle.std.specs.Prelude.{◌≡◌, ◌+◌, ◌-◌, ◌^◌, ◌<�
 use crate::{RwLockReaderPreference, RwReaderPass};
 use model_rw_reader::{RwReaderPlace, reader_enters};
 use running_model::Sealed;
+use running_model::calls::UnlockCall;
 use running_model::turn::{Goes, Turn, Way, begin_held};
-use running_rw_hold::{ReadSteps, UnlockCall};
+use running_rw_hold::ReadSteps;
 use running_tallies::{Held, RwReaderScript, WaitWord};
 use std::alloc::Allocator;
 

@@ -4,8 +4,8 @@ ghost use Rattle.std.specs.Prelude.{◌≡◌, ◌-◌, ◌^◌};
 use crate::{RwLockReaderPreference, RwReaderPass};
 use model_rw_reader::writer_enters;
 use running_model::Sealed;
+use running_model::calls::UnlockCall;
 use running_model::turn::{Continues, Goes, Turn, Way};
-use running_rw_hold::UnlockCall;
 use running_tallies::WaitWord;
 use std::alloc::Allocator;
 

@@ -5,8 +5,9 @@ use crate::steps::PlayedPass;
 use crate::{LOCK, RwLockWriterPreference, RwWriterPass};
 use model_rw_writer::{RwWriterPlace, is_last_reader, reader_enters};
 use running_model::Sealed;
+use running_model::calls::UnlockCall;
 use running_model::turn::{Goes, Turn, Way, begin_held};
-use running_rw_hold::{ReadSteps, UnlockCall};
+use running_rw_hold::ReadSteps;
 use running_tallies::{MarkedHolds, RwWriterScript, WaitWord};
 use std::alloc::Allocator;
 

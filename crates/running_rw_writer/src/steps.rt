@@ -4,9 +4,9 @@ ghost use Rattle.std.specs.Prelude.{◌≡◌, ◌-◌, ◌^◌};
 use crate::{COUNTER, LOCK, RwLockWriterPreference};
 use model_rw_writer::writer_enters;
 use running_model::Sealed;
+use running_model::calls::UnlockCall;
 use running_model::turn::{Continues, Goes, Turn, Way};
 use running_passes::Pass;
-use running_rw_hold::UnlockCall;
 use running_tallies::{PlayedRwWriter, WaitWord};
 use std::alloc::Allocator;
 

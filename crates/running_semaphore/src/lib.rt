@@ -12,6 +12,7 @@ mod shares;
 
 use model_events::WaitAction;
 use model_semaphore::{SemaphorePlace, taken};
+use running_model::calls::{TryWaitCall, ValueCall, WaitCall};
 use running_model::turn::{Attempt, Called, Goes, Turn, Way, begin_new, try_again};
 use running_model::{Sealed, Stage};
 use running_passes::{Origin, Pass, WaitResult, success_if};
@@ -44,33 +45,6 @@ impl<A: Allocator> Deref for Semaphore<A> {
 
 /// The right to call a semaphore, and what its owner did and saw there.
 pub type SemPass = Pass<PlayedSemaphore>;
-
-/// A `Value`.
-struct ValueCall;
-
-impl Called<u64> for ValueCall {
-    ghost use Rattle.model_events.specs.declared.event.Call.TheVariants as calls;
-
-    ghost call = { calls.Value };
-}
-
-/// A `TryWait`.
-struct TryWaitCall;
-
-impl Called<u64> for TryWaitCall {
-    ghost use Rattle.model_events.specs.declared.event.Call.TheVariants as calls;
-
-    ghost call = { calls.TryWait };
-}
-
-/// A `Wait`.
-struct WaitCall;
-
-impl Called<u64> for WaitCall {
-    ghost use Rattle.model_events.specs.declared.event.Call.TheVariants as calls;
-
-    ghost call = { calls.Wait };
-}
 
 impl<A: Allocator> Semaphore<A> {
     ghost use Rattle.std.specs.Prelude.{true, false, ℕ, ◌-◌, ◌≢◌, [], ◌∷◌, List, MatchBool, IfErr};

@@ -23,6 +23,7 @@ use crate::script::{PlayedSpin, SpinScript};
 use crate::slot::{self, FREE, LOCKED};
 use atomic_table::{Seat, Table};
 use model_spin::SpinPlace;
+use running_model::calls::{BlockingLockCall, LockCall, TryLockCall, UnlockCall};
 use running_model::seat::{SeatTurn, begin_new};
 use running_model::turn::{Called, Goes, Way};
 use running_passes::View;
@@ -38,43 +39,15 @@ pub struct SpinLock<T, A: Allocator = Global> {
     ghost one_slot: { table.shared.table_id.slots ≡ 1 },
 }
 
-/// A `TryLock`.
-struct TryLockCall;
-
-impl Called<u64> for TryLockCall {
-    ghost call = { calls.TryLock };
-}
-
-/// An `Unlock`.
-struct UnlockCall;
-
-impl Called<u64> for UnlockCall {
-    ghost call = { calls.Unlock };
-}
-
 /// A call that swaps until it has the lock.
 trait Waiting: Called<u64> {
     ghost waits: { IsWaiting Self.Called.call };
-}
-
-/// A `Lock`.
-struct LockCall;
-
-impl Called<u64> for LockCall {
-    ghost call = { calls.Lock };
 }
 
 impl Waiting for LockCall {
     ghost use Rattle.std.proofs.Common.{refl, inl};
 
     ghost waits = { inl refl };
-}
-
-/// A `BlockingLock`.
-struct BlockingLockCall;
-
-impl Called<u64> for BlockingLockCall {
-    ghost call = { calls.BlockingLock };
 }
 
 impl Waiting for BlockingLockCall {

@@ -4,9 +4,9 @@ use Rattle.running_passes.specs.Parts.{half}
 use Rattle.running_passes.specs.Passes.{part_of}
 use Rattle.running_guarded.specs.GuardedSteps.{PlaysBoth}
 use Rattle.running_guarded.specs.GuardedShown.{HasLockedOnce, HasLockedOften, view, part_of as part_of_value}
-use Rattle.running_mutex.specs.CondShown.{HasNotified, waits_in, permits_in}
-use Rattle.running_mutex.specs.Often.{HasWaitedOften}
-use Rattle.running_mutex.specs.declared.condition_variable.CondPass.{CondPass}
+use Rattle.running_condvar.specs.CondShown.{HasNotified, waits_in, permits_in}
+use Rattle.running_condvar.specs.Often.{HasWaitedOften}
+use Rattle.running_condvar.specs.declared.CondPass.{CondPass}
 use Rattle.sleeping_monitor.specs.declared.SleepingMonitor.{SleepingMonitor}
 use Rattle.sleeping_monitor.specs.declared.MonitorPass.{MonitorPass}
 use Rattle.sleeping_monitor.specs.declared.MonitorHandle.{MonitorHandle}

@@ -1,6 +1,6 @@
 -- To which monitor passes belong.
 use Rattle.running_guarded.specs.GuardedShown.{IsGuardedPass}
-use Rattle.running_mutex.specs.CondShown.{IsCondPass}
+use Rattle.running_condvar.specs.CondShown.{IsCondPass}
 use Rattle.sleeping_monitor.specs.declared.SleepingMonitor.{SleepingMonitor}
 use Rattle.sleeping_monitor.specs.declared.MonitorPass.{MonitorPass}
 

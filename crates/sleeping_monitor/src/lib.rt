@@ -6,8 +6,8 @@
 ghost use Rattle.sleeping_monitor.specs.Passes.{IsMonitorPass};
 
 use running_closures::Sleepers;
+use running_condvar::{CondPass, ConditionVariable};
 use running_guarded::{Guarded, GuardedPass};
-use running_mutex::condition_variable::{CondPass, ConditionVariable};
 use running_passes::WaitResult;
 use std::alloc::{AllocError, Allocator, Global};
 use std::sync::Wait;
@@ -44,8 +44,8 @@ impl<T: Drop, A: Allocator + Copy + Clone> SleepingMonitor<T, A> {
     ghost use Rattle.running_tallies.specs.Semaphore.{first_permits};
     ghost use Rattle.running_spin_lock.specs.ValueRule.{none_held};
     ghost use Rattle.running_guarded.specs.GuardedShown.{view as view_at};
-    ghost use Rattle.running_mutex.specs.Cond.{no_waits};
-    ghost use Rattle.running_mutex.specs.CondShown.{waits_in, permits_in};
+    ghost use Rattle.running_condvar.specs.Cond.{no_waits};
+    ghost use Rattle.running_condvar.specs.CondShown.{waits_in, permits_in};
 
     /// A monitor of this value, at which nobody waits, and its whole passes. `Err` where there was no memory; then nothing was made.
     pub fn new(alloc: A, value: T) -> Result<(SleepingMonitor<T, A>, MonitorPass), AllocError>

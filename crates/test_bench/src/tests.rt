@@ -1,4 +1,4 @@
-//! What no contract says, and examples of what one says.
+//! How many rounds are asked for, what is printed of them, and of a fault.
 
 mod faults;
 mod figures;

@@ -1,6 +1,5 @@
-//! Each public call of the model once, with ample memory; and the word functions at the ends of their types. Texts are played by `./test texts`.
+//! Each public call of the model once, with ample memory, and schedules in pieces. Texts are played by `./test texts`.
 mod atomic;
-mod events;
 mod growths;
 mod objects;
 mod schedules;
@@ -13,60 +12,14 @@ use model_events::hold::HoldKind::{Read, Write};
 use schedules::{Did, How, Part, Row, Schedule, events_of, plays, reads, told_otherwise};
 use std::alloc::{AllocError, Global};
 use std::test::Fail;
-use sync_steps::atomic::internal::AtomicInteger;
+use sync_steps::WaitAction;
 use sync_steps::steps::Answer::{Flag, Interrupted, InterruptedHeld, Number, Success};
 use sync_steps::steps::Input::{Begin, Go};
 use sync_steps::steps::Then::{Answers, GoesOn, Waits};
 use sync_steps::steps::Word::{Counter, State, Value, Waiters};
 use sync_steps::steps::{
-    self, Act, Answer, Call, Event, Input, Machine, Object, PlayFault, StepFault, Wake,
-    at_every_prefix, play,
+    Act, Answer, Call, Event, Input, Machine, Object, PlayFault, StepFault, at_every_prefix, play,
 };
-use sync_steps::{SPIN_REPETITIONS, WaitAction};
-
-#[test]
-fn word_functions_at_their_paths(rt: HostRuntime) {
-    let answers = [
-        ("granted", steps::mutex::granted(0), 1),
-        (
-            "writer_enters",
-            steps::rw_reader::writer_enters(0),
-            u64::MAX,
-        ),
-        (
-            "reader_enters",
-            steps::rw_writer::reader_enters(u64::MAX - 5),
-            u64::MAX - 3,
-        ),
-        ("reader_leaves", steps::rw_writer::reader_leaves(3), 1),
-        (
-            "writer_enters",
-            steps::rw_writer::writer_enters(1),
-            u64::MAX,
-        ),
-        ("marks", steps::rw_writer::marks(u64::MAX - 3), u64::MAX - 2),
-        ("unmarks", steps::rw_writer::unmarks(3), 2),
-        (
-            "permits_for",
-            Some(steps::condvar::permits_for(Wake::One, u64::MAX)),
-            1,
-        ),
-        ("taken", steps::semaphore::taken(u64::MAX), u64::MAX - 1),
-        ("posted", Some(steps::semaphore::posted(u64::MAX, 2)), 1),
-        ("arrived", steps::barrier::arrived(1, 2), 4294967296),
-        (
-            "opened",
-            Some(steps::barrier::opened(18446744069414584321)),
-            0,
-        ),
-        ("begun", steps::once::begun(0), 1),
-        ("SPIN_REPETITIONS", Some(SPIN_REPETITIONS), 10000),
-        ("from_words", Some(u64::from_words(7, 9)), 7),
-    ];
-    for (name, found, wanted) in &answers {
-        assert_eq!(rt; *found, Some(*wanted), "{name}");
-    }
-}
 
 const MUTEX: Schedule<u64> = Schedule {
     object: Object::Mutex,

@@ -1,7 +1,7 @@
 //! A storm at a guarded value and a condition variable: two put in, and notify; six wait, and take out.
 ghost use Rattle.std.specs.Prelude.{◌≡◌};
 ghost use Rattle.running_guarded.specs.GuardedShown.{IsGuardedPass, part_of, HasStayed};
-ghost use Rattle.running_mutex.specs.CondShown.{IsCondPass};
+ghost use Rattle.running_condvar.specs.CondShown.{IsCondPass};
 
 use crate::crowd::{Means, Object};
 use crate::platform::{Impatient, Platform};

@@ -1,4 +1,1 @@
-pub mod Objects
-pub mod Advice
 pub mod Failed
-pub mod Question

@@ -2,7 +2,7 @@
 ghost use Rattle.std.specs.Prelude.{◌≡◌, None};
 ghost use Rattle.text_lines.specs.Fault.{run_fault_of};
 ghost use Rattle.text_lines.specs.declared.fault.RunFault.TheVariants as runs;
-ghost use Rattle.text_advice.specs.Failed.{IsAdvised};
+ghost use Rattle.text_advice.specs.Failed.{AdvisesOnText};
 
 use crate::explain;
 use std::alloc::{AllocError, Global};
@@ -21,7 +21,7 @@ impl Failed {
     /// That a text has this fault, and what would be right.
     pub fn of_text(alloc: Global, text: &[u8], fault: TextFault) -> Failed
         ensures fault { result.fault ≡ run_fault_of fault }
-        ensures advised { IsAdvised result (λ read. read ≡ text.now) }
+        ensures advised { AdvisesOnText result }
     {
         Failed {
             fault: RunFault::from(fault),

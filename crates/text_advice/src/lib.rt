@@ -10,11 +10,6 @@ pub mod question;
 mod repeat;
 mod sentence;
 
-ghost use Rattle.std.specs.Prelude.{◌≡◌, ℕ, List, IfOk};
-ghost use Rattle.text_lines.specs.Lexer.{lines_of};
-ghost use Rattle.text_lines.specs.ValueTypes.{object_of_name};
-ghost use Rattle.text_advice.specs.Advice as meaning;
-
 use crate::repeat::repeat;
 use crate::sentence::say;
 pub use failed::Failed;
@@ -25,9 +20,7 @@ use text_lines::lexer::{next_line, next_word};
 use text_lines::value_type::object_named;
 
 /// A line of a text, counted from 1, without its end. Empty where the text has no such line.
-fn line_of(text: &[u8], number: u64) -> &[u8]
-    ensures { result.now ≡ meaning.line_of number (lines_of text.now) }
-{
+fn line_of(text: &[u8], number: u64) -> &[u8] {
     let mut rest = text;
     for at in 1..number {
         match next_line(rest) {
@@ -42,9 +35,7 @@ fn line_of(text: &[u8], number: u64) -> &[u8]
 }
 
 /// The object that the first line of a text names.
-fn object_of(text: &[u8]) -> Option<Object<()>>
-    ensures { result ≡ meaning.object_of (lines_of text.now) }
-{
+fn object_of(text: &[u8]) -> Option<Object<()>> {
     let (line, _) = next_line(text)?;
     let (name, _) = next_word(line)?;
     object_named(name)
@@ -53,9 +44,7 @@ fn object_of(text: &[u8]) -> Option<Object<()>>
 /// The line of a text that has this fault, and, on a line of its own, a sentence that says what would be right there.
 ///
 /// It says so by the line, the fault and the object alone: what was played before the line it does not look at.
-pub fn explain(alloc: Global, text: &[u8], found: FaultyLine) -> Result<Vec<u8>, AllocError>
-    ensures { IfOk result (λ bytes. bytes.items ≡ meaning.explained (lines_of text.now) found) }
-{
+pub fn explain(alloc: Global, text: &[u8], found: FaultyLine) -> Result<Vec<u8>, AllocError> {
     let line = line_of(text, found.line);
     let mut out = Vec::new(alloc);
     repeat(&mut out, line)?;
@@ -64,8 +53,3 @@ pub fn explain(alloc: Global, text: &[u8], found: FaultyLine) -> Result<Vec<u8>,
     out.extend_from_slice(b"\n")?;
     Ok(out)
 }
-
-/// Of a first line that names an object, but does not open it, a line is advised that opens the object of this name.
-pub fn advised_lines_open()
-    ensures { (name : List ℕ) → meaning.Opens name (object_of_name name) }
-{}

@@ -1,27 +1,19 @@
 //! What is said of each object, where a text or a question has a fault.
-ghost use Rattle.std.specs.Prelude.{◌≡◌};
-ghost use Rattle.text_advice.specs.Objects as meaning;
 
 use model_events::event::Object;
 
 /// With what a text begins.
-pub fn text_begins() -> &'static [u8]
-    ensures { result.now ≡ meaning.text_begins }
-{
+pub fn text_begins() -> &'static [u8] {
     b"a text begins with its object: mutex, spin, semaphore, barrier, rwreader, rwwriter, condvar, once, lazy, atomic_u64, atomic_u128, atomic_i64, atomic_i128"
 }
 
 /// With what a question begins.
-pub fn question_begins() -> &'static [u8]
-    ensures { result.now ≡ meaning.question_begins }
-{
+pub fn question_begins() -> &'static [u8] {
     b"a question begins with its object: mutex, spin, semaphore, barrier, rwreader, rwwriter, condvar, once, lazy, and of the atomics atomic_u64"
 }
 
 /// That it has no call of a name, up to the name.
-pub fn has_no_call(object: Object<()>) -> &'static [u8]
-    ensures { result.now ≡ meaning.has_no_call object }
-{
+pub fn has_no_call(object: Object<()>) -> &'static [u8] {
     match object {
         Object::Mutex => b"a mutex has no call `",
         Object::Spin => b"a spin lock has no call `",
@@ -36,9 +28,7 @@ pub fn has_no_call(object: Object<()>) -> &'static [u8]
 }
 
 /// What its first line has, up to a line that opens it.
-pub fn first_line(object: Object<()>) -> &'static [u8]
-    ensures { result.now ≡ meaning.first_line object }
-{
+pub fn first_line(object: Object<()>) -> &'static [u8] {
     match object {
         Object::Mutex => b"a mutex's first line has a number of parties, and no value: ",
         Object::Spin => b"a spin lock's first line has a number of parties, and no value: ",
@@ -63,9 +53,7 @@ pub fn first_line(object: Object<()>) -> &'static [u8]
 }
 
 /// The words after its name in a line that opens it for two parties.
-pub fn first_words(object: Object<()>) -> &'static [u8]
-    ensures { result.now ≡ meaning.first_words object }
-{
+pub fn first_words(object: Object<()>) -> &'static [u8] {
     match object {
         Object::Barrier(_) => b" 2 2",
         Object::Semaphore(_) | Object::Lazy(_) | Object::Atomic(_) => b" 2 5",
@@ -74,9 +62,7 @@ pub fn first_words(object: Object<()>) -> &'static [u8]
 }
 
 /// Which numbers its first line may have.
-pub fn first_numbers(object: Object<()>) -> &'static [u8]
-    ensures { result.now ≡ meaning.first_numbers object }
-{
+pub fn first_numbers(object: Object<()>) -> &'static [u8] {
     match object {
         Object::Barrier(_) => {
             b"there are 1 to 64 parties, and 0 to 4294967295 arrivals open a round, in decimal digits"
@@ -97,9 +83,7 @@ pub fn first_numbers(object: Object<()>) -> &'static [u8]
 }
 
 /// Which numbers follow its verbs.
-pub fn numbers_after(object: Object<()>) -> &'static [u8]
-    ensures { result.now ≡ meaning.numbers_after object }
-{
+pub fn numbers_after(object: Object<()>) -> &'static [u8] {
     match object {
         Object::Semaphore(_) => {
             b"a number follows `post`, and may follow `go`, and none follows the others"
@@ -112,9 +96,7 @@ pub fn numbers_after(object: Object<()>) -> &'static [u8]
 }
 
 /// The range of the numbers that follow.
-pub fn numbers_within(object: Object<()>) -> &'static [u8]
-    ensures { result.now ≡ meaning.numbers_within object }
-{
+pub fn numbers_within(object: Object<()>) -> &'static [u8] {
     match object {
         Object::Semaphore(_) => {
             b"`go` makes 1 to 100000 steps, and `post` gives 0 to 18446744073709551615 permits"
@@ -127,9 +109,7 @@ pub fn numbers_within(object: Object<()>) -> &'static [u8]
 }
 
 /// The verbs that move a call of it on.
-pub fn verbs_of(object: Object<()>) -> &'static [u8]
-    ensures { result.now ≡ meaning.verbs_of object }
-{
+pub fn verbs_of(object: Object<()>) -> &'static [u8] {
     match object {
         Object::Atomic(_) => b"; a call under way: go, run, some, none",
         Object::Spin | Object::Once | Object::Lazy(_) => b"; a call under way: go, run",
@@ -138,9 +118,7 @@ pub fn verbs_of(object: Object<()>) -> &'static [u8]
 }
 
 /// How its closure is answered.
-pub fn answers(object: Object<()>) -> &'static [u8]
-    ensures { result.now ≡ meaning.answers object }
-{
+pub fn answers(object: Object<()>) -> &'static [u8] {
     match object {
         Object::Atomic(_) => {
             b"the call stands at its closure, which answers `some` and a value, or `none`"
@@ -150,9 +128,7 @@ pub fn answers(object: Object<()>) -> &'static [u8]
 }
 
 /// What may be said of the closures of an object's calls.
-pub fn closures_of(object: Object<()>) -> &'static [u8]
-    ensures { result.now ≡ meaning.closures_of object }
-{
+pub fn closures_of(object: Object<()>) -> &'static [u8] {
     match object {
         Object::Atomic(_) => b"may choose some 7, may choose none",
         _ => b"may abort, aborts, sleeps",
@@ -160,9 +136,7 @@ pub fn closures_of(object: Object<()>) -> &'static [u8]
 }
 
 /// The answers of an object that an item may look at.
-pub fn answers_of(object: Object<()>) -> &'static [u8]
-    ensures { result.now ≡ meaning.answers_of object }
-{
+pub fn answers_of(object: Object<()>) -> &'static [u8] {
     match object {
         Object::Mutex | Object::Spin | Object::ReaderLock | Object::WriterLock => {
             b"success, interrupted, done"
@@ -177,9 +151,7 @@ pub fn answers_of(object: Object<()>) -> &'static [u8]
 }
 
 /// Which numbers follow the object's calls.
-pub fn numbers_of_calls(object: Object<()>) -> &'static [u8]
-    ensures { result.now ≡ meaning.numbers_of_calls object }
-{
+pub fn numbers_of_calls(object: Object<()>) -> &'static [u8] {
     match object {
         Object::Atomic(_) =>
             b"two numbers follow `compare_exchange`, and one each call but `load` and `fetch_update`",
@@ -188,9 +160,7 @@ pub fn numbers_of_calls(object: Object<()>) -> &'static [u8]
 }
 
 /// The terms of a condition.
-pub fn terms_of(object: Object<()>) -> &'static [u8]
-    ensures { result.now ≡ meaning.terms_of object }
-{
+pub fn terms_of(object: Object<()>) -> &'static [u8] {
     match object {
         Object::Mutex => {
             b"1 success, 1 interrupted, 1 done, 1 aborted, 1 waits, 1 holds write, word 0, stuck"

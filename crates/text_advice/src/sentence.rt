@@ -1,8 +1,4 @@
 //! The sentence that says what would be right in the place of a line with a fault.
-ghost use Rattle.std.specs.Prelude.{◌≡◌, ◌++◌, OnOk};
-ghost use Rattle.text_lines.specs.Objects.{calls_of as listed_calls};
-ghost use Rattle.text_lines.specs.Lexer.{words_of};
-ghost use Rattle.text_advice.specs.Advice as meaning;
 
 use crate::objects::{
     answers, first_line, first_numbers, first_words, has_no_call, numbers_after, numbers_within,
@@ -18,49 +14,37 @@ use text_lines::lexer::{is, next_word, number_within};
 use text_lines::objects::calls_of;
 
 /// Adds the names of calls, with commas between.
-fn add_names(out: &mut Vec<u8>, calls: &[Call<()>]) -> Result<(), AllocError>
-    ensures { OnOk result (out.new.items ≡ out.old.items ++ meaning.listed calls.now) }
-{
-    match calls {
-        [] => Ok(()),
-        [call] => out.extend_from_slice(name_of(call).as_bytes()),
-        [call, rest @ ..] => {
-            out.extend_from_slice(name_of(call).as_bytes())?;
-            out.extend_from_slice(b", ")?;
-            add_names(out, rest)
-        }
+fn add_names(out: &mut Vec<u8>, calls: &[Call<()>]) -> Result<(), AllocError> {
+    let mut between: &[u8] = b"";
+    for call in calls {
+        out.extend_from_slice(between)?;
+        out.extend_from_slice(name_of(call).as_bytes())?;
+        between = b", ";
     }
+    Ok(())
 }
 
 /// Adds words, and then the names of all calls of the object.
-pub fn list_calls(out: &mut Vec<u8>, words: &[u8], object: Object<()>) -> Result<(), AllocError>
-    ensures { OnOk result (out.new.items ≡ out.old.items ++ (words.now ++ meaning.listed (listed_calls object))) }
-{
+pub fn list_calls(out: &mut Vec<u8>, words: &[u8], object: Object<()>) -> Result<(), AllocError> {
     out.extend_from_slice(words)?;
     add_names(out, calls_of(&object))
 }
 
 /// Adds words, and then all that a line may ask of the object: its calls, and the verbs of a call under way.
-pub fn list_asked(out: &mut Vec<u8>, words: &[u8], object: Object<()>) -> Result<(), AllocError>
-    ensures { OnOk result (out.new.items ≡ out.old.items ++ meaning.may_ask words.now object) }
-{
+pub fn list_asked(out: &mut Vec<u8>, words: &[u8], object: Object<()>) -> Result<(), AllocError> {
     list_calls(out, words, object)?;
     out.extend_from_slice(verbs_of(object))
 }
 
 /// Adds that the object has no call of this name, and which it has.
-fn refuse_name(out: &mut Vec<u8>, object: Object<()>, name: &[u8]) -> Result<(), AllocError>
-    ensures { OnOk result (out.new.items ≡ out.old.items ++ meaning.of_unknown object name.now) }
-{
+fn refuse_name(out: &mut Vec<u8>, object: Object<()>, name: &[u8]) -> Result<(), AllocError> {
     out.extend_from_slice(has_no_call(object))?;
     repeat(out, name)?;
     list_asked(out, b"`: ", object)
 }
 
 /// Whether a word begins as a comment does in many languages.
-pub fn is_comment(word: &[u8]) -> bool
-    ensures { result ≡ meaning.is_comment word.now }
-{
+pub fn is_comment(word: &[u8]) -> bool {
     match word.first() {
         Some(byte) => *byte == b'#' || *byte == b'/' || *byte == b';' || *byte == b'%',
         None => false,
@@ -68,16 +52,12 @@ pub fn is_comment(word: &[u8]) -> bool
 }
 
 /// Whether the first line begins with a byte-order mark.
-pub fn is_marked(line: &[u8]) -> bool
-    ensures { result ≡ meaning.is_marked line.now }
-{
+pub fn is_marked(line: &[u8]) -> bool {
     line.len() >= 3 && line[0] == 0xef && line[1] == 0xbb && line[2] == 0xbf
 }
 
 /// Of a line with this verb, whose words are no command of the object.
-fn of_verb(out: &mut Vec<u8>, object: Object<()>, name: &[u8]) -> Result<(), AllocError>
-    ensures { OnOk result (out.new.items ≡ out.old.items ++ meaning.of_verb object name.now) }
-{
+fn of_verb(out: &mut Vec<u8>, object: Object<()>, name: &[u8]) -> Result<(), AllocError> {
     if is_known(object, name) {
         out.extend_from_slice(numbers_after(object))
     } else {
@@ -86,9 +66,7 @@ fn of_verb(out: &mut Vec<u8>, object: Object<()>, name: &[u8]) -> Result<(), All
 }
 
 /// Whether a word is no number at all.
-pub fn is_no_number(word: &[u8]) -> bool
-    ensures { result ≡ meaning.is_no_number word.now }
-{
+pub fn is_no_number(word: &[u8]) -> bool {
     number_within(0, u64::MAX, word).is_err()
 }
 
@@ -98,9 +76,7 @@ fn of_words(
     object: Object<()>,
     party: &[u8],
     rest: &[u8],
-) -> Result<(), AllocError>
-    ensures { OnOk result (out.new.items ≡ out.old.items ++ meaning.of_words object party.now (words_of rest.now)) }
-{
+) -> Result<(), AllocError> {
     if is_comment(party) {
         out.extend_from_slice(b"a text has no comments")
     } else if is_no_number(party) {
@@ -118,9 +94,7 @@ fn of_words(
 }
 
 /// Of a line whose words are no command of the object.
-fn of_bad_line(out: &mut Vec<u8>, object: Object<()>, line: &[u8]) -> Result<(), AllocError>
-    ensures { OnOk result (out.new.items ≡ out.old.items ++ meaning.of_bad_line object (words_of line.now)) }
-{
+fn of_bad_line(out: &mut Vec<u8>, object: Object<()>, line: &[u8]) -> Result<(), AllocError> {
     match next_word(line) {
         Some((party, rest)) => of_words(out, object, party, rest),
         None => list_asked(out, b"a line has a party and what it does: ", object),
@@ -128,9 +102,7 @@ fn of_bad_line(out: &mut Vec<u8>, object: Object<()>, line: &[u8]) -> Result<(),
 }
 
 /// Of a line with a number that is none, or out of its range.
-fn of_bad_number(out: &mut Vec<u8>, object: Object<()>, line: &[u8]) -> Result<(), AllocError>
-    ensures { OnOk result (out.new.items ≡ out.old.items ++ meaning.of_bad_number object (words_of line.now)) }
-{
+fn of_bad_number(out: &mut Vec<u8>, object: Object<()>, line: &[u8]) -> Result<(), AllocError> {
     match next_word(line) {
         Some((party, _)) if is_no_number(party) => {
             out.extend_from_slice(b"a line begins with the number of a party, in decimal digits")
@@ -140,9 +112,7 @@ fn of_bad_number(out: &mut Vec<u8>, object: Object<()>, line: &[u8]) -> Result<(
 }
 
 /// Whether a line asks for so many steps.
-fn counts_steps(line: &[u8]) -> bool
-    ensures { result ≡ meaning.counts_steps (words_of line.now) }
-{
+fn counts_steps(line: &[u8]) -> bool {
     let Some((_, rest)) = next_word(line) else {
         return false;
     };
@@ -153,9 +123,7 @@ fn counts_steps(line: &[u8]) -> bool
 }
 
 /// Of a line that moves a call on where none is under way.
-fn of_idle(out: &mut Vec<u8>, object: Object<()>, line: &[u8]) -> Result<(), AllocError>
-    ensures { OnOk result (out.new.items ≡ out.old.items ++ meaning.of_idle object (words_of line.now)) }
-{
+fn of_idle(out: &mut Vec<u8>, object: Object<()>, line: &[u8]) -> Result<(), AllocError> {
     if counts_steps(line) {
         out.extend_from_slice(
             b"the call ended before these steps, or none was under way: `run` goes to its end",
@@ -170,9 +138,7 @@ fn of_idle(out: &mut Vec<u8>, object: Object<()>, line: &[u8]) -> Result<(), All
 }
 
 /// Whether a line answers `wait` at an object that has a call of this name in Rust, which a text begins by another.
-fn means_to_begin(object: Object<()>, line: &[u8]) -> bool
-    ensures { result ≡ meaning.means_to_begin object (words_of line.now) }
-{
+fn means_to_begin(object: Object<()>, line: &[u8]) -> bool {
     let Some((_, rest)) = next_word(line) else {
         return false;
     };
@@ -183,9 +149,7 @@ fn means_to_begin(object: Object<()>, line: &[u8]) -> bool
 }
 
 /// Of a line that answers a closure where none waits for an answer of this kind.
-fn of_early_answer(out: &mut Vec<u8>, object: Object<()>, line: &[u8]) -> Result<(), AllocError>
-    ensures { OnOk result (out.new.items ≡ out.old.items ++ meaning.of_early_answer object (words_of line.now)) }
-{
+fn of_early_answer(out: &mut Vec<u8>, object: Object<()>, line: &[u8]) -> Result<(), AllocError> {
     if means_to_begin(object, line) {
         out.extend_from_slice(b"to begin the call, write start_wait")
     } else {
@@ -194,9 +158,7 @@ fn of_early_answer(out: &mut Vec<u8>, object: Object<()>, line: &[u8]) -> Result
 }
 
 /// Adds a line that opens the object of this name.
-fn add_opening(out: &mut Vec<u8>, object: Object<()>, name: &[u8]) -> Result<(), AllocError>
-    ensures { OnOk result (out.new.items ≡ out.old.items ++ meaning.opening object name.now) }
-{
+fn add_opening(out: &mut Vec<u8>, object: Object<()>, name: &[u8]) -> Result<(), AllocError> {
     out.extend_from_slice(name)?;
     out.extend_from_slice(first_words(object))
 }
@@ -207,9 +169,7 @@ pub fn of_first_line(
     object: Object<()>,
     name: &[u8],
     fault: LineFault,
-) -> Result<(), AllocError>
-    ensures { OnOk result (out.new.items ≡ out.old.items ++ meaning.of_first_line object name.now fault) }
-{
+) -> Result<(), AllocError> {
     match fault {
         LineFault::BadNumber => out.extend_from_slice(first_numbers(object)),
         _ => {
@@ -225,9 +185,7 @@ fn of_line(
     object: Object<()>,
     line: &[u8],
     fault: LineFault,
-) -> Result<(), AllocError>
-    ensures { OnOk result (out.new.items ≡ out.old.items ++ meaning.of_line object line.now fault) }
-{
+) -> Result<(), AllocError> {
     match fault {
         LineFault::NoObject | LineFault::BadLine => of_bad_line(out, object, line),
         LineFault::BadNumber => of_bad_number(out, object, line),
@@ -253,9 +211,7 @@ fn of_line(
 }
 
 /// The first word of a line. Empty where it has none.
-pub fn first_word(line: &[u8]) -> &[u8]
-    ensures { result.now ≡ meaning.first_word (words_of line.now) }
-{
+pub fn first_word(line: &[u8]) -> &[u8] {
     match next_word(line) {
         Some((word, _)) => word,
         None => &[],
@@ -263,9 +219,7 @@ pub fn first_word(line: &[u8]) -> &[u8]
 }
 
 /// Of a text that names no object.
-fn of_no_object(out: &mut Vec<u8>, line: &[u8]) -> Result<(), AllocError>
-    ensures { OnOk result (out.new.items ≡ out.old.items ++ meaning.of_no_object line.now) }
-{
+fn of_no_object(out: &mut Vec<u8>, line: &[u8]) -> Result<(), AllocError> {
     if is_marked(line) {
         out.extend_from_slice(b"the first line has a byte-order mark")
     } else if is_comment(first_word(line)) {
@@ -281,9 +235,7 @@ pub fn say(
     object: Option<Object<()>>,
     line: &[u8],
     found: FaultyLine,
-) -> Result<(), AllocError>
-    ensures { OnOk result (out.new.items ≡ out.old.items ++ meaning.sentence_of object line.now found) }
-{
+) -> Result<(), AllocError> {
     match object {
         None => of_no_object(out, line),
         Some(object) if found.line == 1 => of_first_line(

@@ -1,7 +1,6 @@
 //! Traces the text that a reader brings.
 ghost use Rattle.std.specs.Prelude.{◌≡◌, OnOk, IfErr, None};
-ghost use Rattle.text_advice.specs.Failed.{IsAdvised};
-ghost use Rattle.sync_play.specs.Run.{HasRead};
+ghost use Rattle.text_advice.specs.Failed.{AdvisesOnText};
 ghost use Rattle.text_trace.specs.Run.{HasTraced, HasBegun, TellsFault, IsEarly};
 
 use crate::trace::trace_text;
@@ -20,7 +19,7 @@ pub fn run<R: Read, W: Write>(alloc: Global, reader: &mut R, writer: &mut W) -> 
         (W.contents writer.old) (W.contents writer.new) None) }
     ensures text { IfErr result (λ e. TellsFault e.fault (R.remaining reader.old) (R.remaining reader.new)
         (W.contents writer.old) (W.contents writer.new)) }
-    ensures advised { IfErr result (λ e. IsAdvised e (HasRead (R.remaining reader.old) (R.remaining reader.new))) }
+    ensures advised { IfErr result (λ e. AdvisesOnText e) }
     ensures unwritten { IfErr result (λ e. IsEarly e.fault → writer.new ≡ writer.old) }
     ensures begun { IfErr result (λ e. e.fault ≡ RunFault.Write → HasBegun (R.remaining reader.old) (R.remaining reader.new)
         (W.contents writer.old) (W.contents writer.new)) }

@@ -1,5 +1,5 @@
 //! The lines of the condition variable, and what they are compared with.
-ghost use Rattle.running_mutex.specs.CondShown.{IsCondPass};
+ghost use Rattle.running_condvar.specs.CondShown.{IsCondPass};
 
 use crate::lines::{Operation, successes};
 use iceoryx2_pal_concurrency_sync::strategy::condition_variable::{CondPass, ConditionVariable};

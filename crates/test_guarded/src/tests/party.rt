@@ -1,12 +1,12 @@
 //! Parties at a guarded number, and at a condition variable where its changes are waited for.
 ghost use Rattle.std.specs.Prelude.{◌≡◌, IfOk};
 ghost use Rattle.running_passes.specs.Parts.{IsWhole};
-ghost use Rattle.running_mutex.specs.CondShown.{IsCondPass};
+ghost use Rattle.running_condvar.specs.CondShown.{IsCondPass};
 ghost use Rattle.running_guarded.specs.GuardedShown.{IsGuardedPass, part_of};
 
 use super::wake_nobody_at_value;
+use running_condvar::{CondPass, ConditionVariable};
 use running_guarded::{Guarded, GuardedPass};
-use running_mutex::condition_variable::{CondPass, ConditionVariable};
 use std::alloc::{AllocError, Global};
 use std::mem;
 use std::sync::Wait;

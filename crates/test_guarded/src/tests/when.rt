@@ -1,6 +1,6 @@
 //! A bounded buffer, whole; and a call that gives up.
 ghost use Rattle.std.specs.Prelude.{IfOk};
-ghost use Rattle.running_mutex.specs.CondShown.{IsCondPass};
+ghost use Rattle.running_condvar.specs.CondShown.{IsCondPass};
 ghost use Rattle.running_guarded.specs.GuardedShown.{IsGuardedPass};
 
 use super::order::{GAVE_UP, wait_alone};
@@ -8,8 +8,8 @@ use super::party::{Party, Shared, change_to};
 use super::wake_nobody_at_value;
 use circular_buffer::HeapCircularBuffer;
 use running_closures::{wake_nobody, yield_and_go_on};
+use running_condvar::{CondPass, ConditionVariable};
 use running_guarded::{Guarded, GuardedPass};
-use running_mutex::condition_variable::{CondPass, ConditionVariable};
 use running_passes::WaitResult;
 use std::alloc::{AllocError, Global};
 use std::sync::Wait;

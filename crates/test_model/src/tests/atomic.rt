@@ -1,16 +1,15 @@
-//! An atomic: its worked texts, as inputs and what is told of them, in one piece and in two.
+//! An atomic: its worked texts, as inputs and what is told of them, in one piece and in two; and the integers that it may have.
 use super::schedules::Did::{Adds, Begins, Decides, Exchanges, Fails, Loads, Stores};
 use super::schedules::{Part, Schedule, plays};
-use model_atomic::{AtomicPlace, at_every_prefix, closed, grant};
-use model_events::hold::HoldKind::{self, Write};
-use model_events::row::{After, Intent};
+use model_events::hold::HoldKind::Write;
 use std::test::Fail;
 use sync_steps::WaitAction;
+use sync_steps::atomic::internal::AtomicInteger;
 use sync_steps::steps::Answer::{Done, ErrOld, OkOld, Value};
 use sync_steps::steps::Input::{Begin, Choose, Go};
 use sync_steps::steps::Then::{Answers, Chooses, GoesOn};
 use sync_steps::steps::Word::{High, State};
-use sync_steps::steps::{Answer, Call, Input, Object, StepFault, Word};
+use sync_steps::steps::{Call, Input, Object, StepFault, Word};
 
 const WRAPS_UP: Schedule<u64> = Schedule {
     object: Object::Atomic(u64::MAX),
@@ -307,71 +306,14 @@ fn inputs_that_an_atomic_refuses(rt: HostRuntime) -> Result<(), Fail> {
     plays(rt.alloc(), &MUTEX_REFUSES)
 }
 
-/// Whether the places of an atomic's calls go on so at the ends of a word.
-fn go_on_at_the_ends() -> [bool; 5] {
-    let look = AtomicPlace::<i64>::Look;
-    let high = AtomicPlace::High {
-        call: Call::FetchSub(1i64),
-        low: 9223372036854775808,
-    };
-    [
-        matches!(
-            look.after(Some(18446744073709551613)),
-            After::At(AtomicPlace::Enter {
-                seen: 18446744073709551613,
-                to: 18446744073709551614
-            })
-        ),
-        matches!(look.after(Some(u64::MAX - 1)), After::At(AtomicPlace::Look)),
-        matches!(look.after(Some(u64::MAX)), After::At(AtomicPlace::Look)),
-        matches!(
-            high.after(Some(0)),
-            After::At(AtomicPlace::PutLow {
-                low: 9223372036854775807,
-                high: 0,
-                answer: Answer::Value(-9223372036854775808)
-            })
-        ),
-        matches!(
-            look.answered(WaitAction::Abort).intent(None),
-            Intent::Load(Word::State)
-        ),
-    ]
-}
-
-/// Whether a call begins at its first place, or none, and a choice leads to the stores.
-fn begin_and_choose() -> [bool; 3] {
-    [
-        matches!(
-            AtomicPlace::<u64>::begin(&Call::Load),
-            Some(AtomicPlace::Look)
-        ),
-        AtomicPlace::<u64>::begin(&Call::Force).is_none(),
-        matches!(
-            AtomicPlace::Again(5u64).chosen(Some(7)),
-            AtomicPlace::PutLow {
-                low: 7,
-                high: 0,
-                answer: Answer::OkOld(5)
-            }
-        ),
-    ]
-}
-
-/// What calls grant.
-const GRANTS: [(Call<u64>, Option<HoldKind>); 3] = [
-    (Call::Load, Some(HoldKind::Read)),
-    (Call::FetchUpdate, Some(HoldKind::Write)),
-    (Call::Unlock, None),
-];
-
 #[test]
-fn places_of_an_atomic_at_the_ends_of_a_word(rt: HostRuntime) {
-    assert_eq!(rt; go_on_at_the_ends(), [true; 5]);
-    assert_eq!(rt; begin_and_choose(), [true; 3]);
-    for (call, wanted) in &GRANTS {
-        assert_eq!(rt; grant(call), *wanted);
-    }
-    closed::<i128>();
-    at_every_prefix::<u128>();
+fn integers_at_the_ends_of_their_types(rt: HostRuntime) {
+    let words = [7u64.to_words(), (-1i64).to_words(), (-1i128).to_words()];
+    assert_eq!(rt; words, [(7, 0), (u64::MAX, 0), (u64::MAX, u64::MAX)]);
+    assert_eq!(rt; u64::from_words(7, 9), 7);
+    let made = [
+        AtomicInteger::overflowing_add(u64::MAX, 1),
+        AtomicInteger::overflowing_sub(5u64, 5),
+    ];
+    assert_eq!(rt; made, [(0, true), (0, false)]);
 }

@@ -33,7 +33,7 @@ fn finds_room<T: AtomicInteger>(
 
 #[test]
 fn a_machine_that_finds_no_memory(rt: HostRuntime) -> Result<(), Fail> {
-    for (object, _, _) in &OBJECTS {
+    for object in &OBJECTS {
         for parties in [1, 3, 20] {
             assert!(rt; finds_room(rt.alloc(), *object, parties)?);
         }

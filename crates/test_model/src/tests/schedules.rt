@@ -41,7 +41,7 @@ impl Clone for Did {
 }
 
 /// What an act did, as a row tells it.
-pub fn did_by<T: AtomicInteger>(act: &Act<T>) -> Did {
+fn did_by<T: AtomicInteger>(act: &Act<T>) -> Did {
     match act {
         Act::Begun(_) => Did::Begins,
         Act::Load { word, seen } => Did::Loads(*word, *seen),
@@ -190,6 +190,21 @@ fn play_parted<T: AtomicInteger>(
     Ok(events)
 }
 
+/// Plays each input in a call of its own.
+fn play_alone<T: AtomicInteger>(
+    alloc: Global,
+    machine: &mut Machine<T>,
+    inputs: &[(usize, Input<T>)],
+) -> Result<Vec<Event<T>>, Fail> {
+    let mut events = Vec::new(alloc);
+    for input in inputs.chunks(1) {
+        for event in &play_all(alloc, machine, input)? {
+            events.push(*event)?;
+        }
+    }
+    Ok(events)
+}
+
 /// What a machine tells of itself: `State`, `Counter`, `Waiters`, `Value`, `Low` and `High`, and how many exchanges failed.
 pub fn reads<T: AtomicInteger>(machine: &Machine<T>) -> [u64; 7] {
     let (low, high) = machine.low_high();
@@ -244,6 +259,8 @@ fn stands<T: AtomicInteger>(machine: &mut Machine<T>, part: &Part<T>) -> bool {
 #[derive(Clone, Copy, Debug)]
 pub enum How {
     OneByOne,
+    /// In a call for each input.
+    Alone,
     /// In two calls, which part there, or at the end.
     Parted(usize),
 }
@@ -259,6 +276,7 @@ fn play_part<T: AtomicInteger>(
     let events = match how {
         How::Parted(at) => play_parted(alloc, machine, &inputs, at.min(inputs.len()))?,
         How::OneByOne => step_each(alloc, machine, &inputs)?,
+        How::Alone => play_alone(alloc, machine, &inputs)?,
     };
     match told_otherwise(&events, part.rows) {
         Some(row) => Err(("it tells otherwise", how, "at row", row))?,
@@ -288,11 +306,14 @@ pub fn events_of<T: AtomicInteger>(
     Ok(events)
 }
 
-/// Plays a schedule input by input, and in two pieces, parted at each input, a long one at its first ten: each time the same events, as it
-/// says.
+/// Plays a schedule step by step, in pieces that part at each input, and in two that part at one: at each in turn, where a long part has its
+/// first ten alone. Each time it has the same events, as it says.
 pub fn plays<T: AtomicInteger>(alloc: Global, schedule: &Schedule<T>) -> Result<(), Fail> {
     let events = events_of(alloc, schedule, How::OneByOne)?;
     let cuts = if events.len() < 100 { events.len() } else { 10 };
+    if !are_same(&events, &events_of(alloc, schedule, How::Alone)?) {
+        return Err("it tells otherwise, parted at each input")?;
+    }
     for at in 0..cuts {
         let parted = events_of(alloc, schedule, How::Parted(at))?;
         if !are_same(&events, &parted) {

@@ -1,7 +1,6 @@
 //! A spin is one stride, and ends where its call asks, has what it wants, or may make no more steps.
 use super::schedules::Did::{self, Fails, Swaps};
 use super::schedules::{play_all, reads, tells};
-use model_events::hold::HoldKind;
 use std::alloc::Global;
 use std::test::Fail;
 use sync_steps::atomic::internal::AtomicInteger;
@@ -92,18 +91,5 @@ fn swaps_are_one_stride(rt: HostRuntime) -> Result<(), Fail> {
     let (read, refused) = strides(rt.alloc(), Object::Spin, &BEGINS, &rows)?;
     assert_eq!(rt; read, [1, 0, 0, 0, 0, 0, 0]);
     assert_eq!(rt; refused, [None, Some(StepFault::NoParty)]);
-    Ok(())
-}
-
-#[test]
-fn a_party_is_where_its_call_is(rt: HostRuntime) -> Result<(), Fail> {
-    let mut machine = Machine::<u64>::new(rt.alloc(), Object::Mutex, 2)?;
-    play_all(rt.alloc(), &mut machine, &BEGINS)?;
-    let (Some(holder), Some(caller)) = (machine.party(0), machine.party(1)) else {
-        return Err("a party is not there")?;
-    };
-    assert!(rt; holder.doing.is_none() && holder.hold == Some(HoldKind::Write));
-    assert!(rt; caller.doing.is_some() && caller.hold.is_none());
-    assert!(rt; machine.party(2).is_none());
     Ok(())
 }

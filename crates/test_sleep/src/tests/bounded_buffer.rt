@@ -1,7 +1,7 @@
 //! A bounded buffer under a mutex, with two condition variables: where is waited for a place, and where for an item.
 ghost use Rattle.std.specs.Prelude.{◌≡◌, IfOk};
 ghost use Rattle.running_mutex.specs.MutexShown.{IsMutexPass, HasStayed as HasLockedAtMost, pass_of, borrow_of};
-ghost use Rattle.running_mutex.specs.CondShown.{IsCondPass, HasStayed as HasWaitedAtMost};
+ghost use Rattle.running_condvar.specs.CondShown.{IsCondPass, HasStayed as HasWaitedAtMost};
 
 use circular_buffer::HeapCircularBuffer;
 use iceoryx2_pal_concurrency_sync::strategy::condition_variable::{

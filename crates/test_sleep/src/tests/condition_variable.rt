@@ -2,7 +2,7 @@
 ghost use Rattle.std.specs.Prelude.{◌≡◌, false, IfOk};
 ghost use Rattle.running_passes.specs.Passes.{IsSamePass};
 ghost use Rattle.running_mutex.specs.MutexShown.{IsMutexPass, HasStayed as HasLockedAtMost, pass_of, borrow_of};
-ghost use Rattle.running_mutex.specs.CondShown.{IsCondPass, HasStayed};
+ghost use Rattle.running_condvar.specs.CondShown.{IsCondPass, HasStayed};
 
 use super::{give_up, mutex_in_two_parts};
 use iceoryx2_pal_concurrency_sync::strategy::condition_variable::{

@@ -2,7 +2,7 @@
 ghost use Rattle.std.specs.Prelude.{◌≡◌};
 ghost use Rattle.running_passes.specs.Parts.{IsWhole};
 ghost use Rattle.running_passes.specs.Passes.{part_of};
-ghost use Rattle.running_mutex.specs.CondShown.{IsCondPass, HasStayed, HasGiven, waits_in, permits_in};
+ghost use Rattle.running_condvar.specs.CondShown.{IsCondPass, HasStayed, HasGiven, waits_in, permits_in};
 
 use iceoryx2_pal_concurrency_sync::strategy::condition_variable::{CondPass, ConditionVariable};
 use iceoryx2_pal_concurrency_sync::{in_threads, wake_nobody};

@@ -1,7 +1,7 @@
 //! A wait with a deadline, which a notify meets: whichever comes first, no permit is lost.
 ghost use Rattle.running_mutex.specs.MutexShown.{IsMutexPass, HasStayed};
-ghost use Rattle.running_mutex.specs.CondShown as conds;
-ghost use Rattle.running_mutex.specs.CondShown.{IsCondPass};
+ghost use Rattle.running_condvar.specs.CondShown as conds;
+ghost use Rattle.running_condvar.specs.CondShown.{IsCondPass};
 
 use iceoryx2_pal_concurrency_sync::strategy::condition_variable::{
     CondPass, ConditionVariable, Woken,

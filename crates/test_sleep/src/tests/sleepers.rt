@@ -1,6 +1,6 @@
 //! Two sleep at a condition variable, and one is notified: the other sleeps on.
 ghost use Rattle.running_mutex.specs.MutexShown.{IsMutexPass};
-ghost use Rattle.running_mutex.specs.CondShown.{IsCondPass};
+ghost use Rattle.running_condvar.specs.CondShown.{IsCondPass};
 
 use super::condition_variable::{in_two_parts, wait_once};
 use iceoryx2_pal_concurrency_sync::strategy::condition_variable::{CondPass, ConditionVariable};

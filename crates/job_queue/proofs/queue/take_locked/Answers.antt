@@ -1,5 +1,5 @@
 use Rattle.job_queue.proofs.Names.{suc, refl, sym, subst, ◌∙◌, arith, parties_of, MutexPass, pass_of, HasStayed, Often, view, LocksAndUnlocks}
-use Rattle.running_mutex.proofs.Often.{waits_again, waits_no_more}
+use Rattle.running_condvar.proofs.Often.{waits_again, waits_no_more}
 use Rattle.job_queue.proofs.Locked.{stays, still_holds, locks_again, unlocks}
 use Rattle.job_queue.proofs.queue.take_locked.Goals as goal
 

@@ -1,6 +1,6 @@
 use Rattle.job_queue.proofs.Names.{◌≡◌, ℕ, Often, HasWaitedOften, HoldsAfter, GoesToTheState}
 use Rattle.running_mutex.specs.MutexShown.{pass_of, borrow_of, HasStayed as HasLockedAtMost}
-use Rattle.running_mutex.specs.CondShown.{HasStayed as HasWaitedAtMost}
+use Rattle.running_condvar.specs.CondShown.{HasStayed as HasWaitedAtMost}
 use Rattle.running_spin_lock.specs.SpinShown.{view, HasStayed as HasSpunAtMost}
 use Rattle.job_queue.proofs.queue.take_locked.Given as goal
 

@@ -9,7 +9,7 @@ pub store-requires-clause-needs : goal.store-requires-clause-needs
 store-requires-clause-needs g c = λ name found named. c.requires.on
 
 pub returns-clause-released : goal.returns-clause-released
-returns-clause-released g c = stores _ c.args.turn.pass.now c.store.result.pass.now (may_unlock _ c.requires.has) c.store.ensures.same c.requires.on c.store.ensures.acted.told
+returns-clause-released g c = stores _ c.args.turn.pass.now c.store.result.pass.now (may_unlock _ c.requires.has) c.store.ensures.same c.requires.on c.store.ensures.stepped.acted.told
 
 pub returns-clause-played : goal.returns-clause-played
-returns-clause-played g c = unlocks _ _ c.store.ensures.went
+returns-clause-played g c = unlocks _ _ c.store.ensures.stepped.went

@@ -11,7 +11,7 @@ store-done-requires-clause-may g c = may_complete c.requires.runs.0 _ (runs_stil
 
 pub returns-clause-ended : goal.returns-clause-ended
 returns-clause-ended g c = subst (λ (p : PlayedPass). HasDone ended p c.store-done.result.pass.now) c.run-given.ensures.still
-    (ends _ c.run-given.result.1.pass.now c.store-done.result.pass.now (may_complete c.requires.runs.0 _ (runs_still _ _ _ c.run-given.ensures.still c.requires.runs.1)) c.store-done.ensures.same c.store-done.ensures.acted.told)
+    (ends _ c.run-given.result.1.pass.now c.store-done.result.pass.now (may_complete c.requires.runs.0 _ (runs_still _ _ _ c.run-given.ensures.still c.requires.runs.1)) c.store-done.ensures.same c.store-done.ensures.stepped.acted.told)
 
 pub returns-clause-left : goal.returns-clause-left
-returns-clause-left g c = λ done at. completes done _ _ (runs_still _ _ _ c.run-given.ensures.still at) c.store-done.ensures.went
+returns-clause-left g c = λ done at. completes done _ _ (runs_still _ _ _ c.run-given.ensures.still at) c.store-done.ensures.stepped.went

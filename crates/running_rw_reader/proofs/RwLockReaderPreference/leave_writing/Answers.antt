@@ -9,7 +9,7 @@ pub store-requires-clause-needs : goal.store-requires-clause-needs
 store-requires-clause-needs g c = λ name found named. c.requires.on
 
 pub returns-clause-released : goal.returns-clause-released
-returns-clause-released g c = writers_out _ c.args.turn.pass.now c.store.result.pass.now (may_leave_writing _ c.requires.has) c.store.ensures.same c.store.ensures.acted.share c.store.ensures.acted.told c.requires.on
+returns-clause-released g c = writers_out _ c.args.turn.pass.now c.store.result.pass.now (may_leave_writing _ c.requires.has) c.store.ensures.same c.store.ensures.stepped.acted.share c.store.ensures.stepped.acted.told c.requires.on
 
 pub returns-clause-played : goal.returns-clause-played
-returns-clause-played g c = leaves_writing _ _ _ c.store.ensures.went
+returns-clause-played g c = leaves_writing _ _ _ c.store.ensures.stepped.went

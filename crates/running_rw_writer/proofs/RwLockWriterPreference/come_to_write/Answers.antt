@@ -5,4 +5,4 @@ pub exchange-requires-clause-may : goal.exchange-requires-clause-may
 exchange-requires-clause-may g c = c.requires.may _ c.write_locked.ensures
 
 pub returns-clause-told : goal.returns-clause-told
-returns-clause-told g c = writers_in _ _ _ _ c.args.turn.pass.now c.exchange.result.1.pass.now (c.requires.may _ c.write_locked.ensures) c.exchange.ensures.acted.told c.exchange.ensures.acted.share c.requires.free c.write_locked.ensures
+returns-clause-told g c = writers_in _ _ _ _ c.args.turn.pass.now c.exchange.result.1.pass.now (c.requires.may _ c.write_locked.ensures) c.exchange.ensures.stepped.acted.told c.exchange.ensures.stepped.acted.share c.requires.free c.write_locked.ensures

@@ -8,10 +8,10 @@ pub subtract-requires-clause-needs : goal.subtract-requires-clause-needs
 subtract-requires-clause-needs g c = λ name found named. subst (λ (w : Word). marked_needed (carried_out (Intent.Subtract w 2) (λ _. found)) (counts_of c.args.turn.pass.now)) named c.requires.on
 
 pub returns-clause-released : goal.returns-clause-released
-returns-clause-released g c = (readers_out _ _ c.args.turn.pass.now c.subtract.result.1.pass.now (may_leave_reading _ c.requires.has) c.subtract.ensures.same c.subtract.ensures.acted.share c.subtract.ensures.acted.told c.requires.on).0
+returns-clause-released g c = (readers_out _ _ c.args.turn.pass.now c.subtract.result.1.pass.now (may_leave_reading _ c.requires.has) c.subtract.ensures.same c.subtract.ensures.stepped.acted.share c.subtract.ensures.stepped.acted.told c.requires.on).0
 
 pub returns-clause-saw : goal.returns-clause-saw
-returns-clause-saw g c = (readers_out _ _ c.args.turn.pass.now c.subtract.result.1.pass.now (may_leave_reading _ c.requires.has) c.subtract.ensures.same c.subtract.ensures.acted.share c.subtract.ensures.acted.told c.requires.on).1
+returns-clause-saw g c = (readers_out _ _ c.args.turn.pass.now c.subtract.result.1.pass.now (may_leave_reading _ c.requires.has) c.subtract.ensures.same c.subtract.ensures.stepped.acted.share c.subtract.ensures.stepped.acted.told c.requires.on).1
 
 pub returns-clause-played : goal.returns-clause-played
-returns-clause-played g c = leaves_reading _ _ _ c.subtract.ensures.went
+returns-clause-played g c = leaves_reading _ _ _ c.subtract.ensures.stepped.went

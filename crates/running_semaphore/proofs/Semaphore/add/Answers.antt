@@ -8,8 +8,8 @@ add-turn-requires-clause-may g c = subst (λ call. MayStep (semaphore_model (ini
 
 pub returns-clause-given : goal.returns-clause-given
 returns-clause-given g c = subst (λ p. HasDone (gave c.args.value) p c.add-turn.result.1.pass.now) c.begin_new-begun.ensures.still
-    (c.add-turn.ensures.same, gives _ (parties_of c.begin_new-begun.result.pass.now) c.args.value c.add-turn.result.0 (counted c.begin_new-begun.result.pass.now) (counted c.add-turn.result.1.pass.now) (may_add _ _ _ c.ranges.value.fits) (subst (λ call. Told (semaphore_model (initial_of c.args.self.now)) sights_after permits_after (Beginning call) (parties_of c.begin_new-begun.result.pass.now) c.add-turn.result.0 (counted c.begin_new-begun.result.pass.now) (counted c.add-turn.result.1.pass.now)) c.requires.post c.add-turn.ensures.acted.told))
+    (c.add-turn.ensures.same, gives _ (parties_of c.begin_new-begun.result.pass.now) c.args.value c.add-turn.result.0 (counted c.begin_new-begun.result.pass.now) (counted c.add-turn.result.1.pass.now) (may_add _ _ _ c.ranges.value.fits) (subst (λ call. Told (semaphore_model (initial_of c.args.self.now)) sights_after permits_after (Beginning call) (parties_of c.begin_new-begun.result.pass.now) c.add-turn.result.0 (counted c.begin_new-begun.result.pass.now) (counted c.add-turn.result.1.pass.now)) c.requires.post c.add-turn.ensures.stepped.acted.told))
 
 pub returns-clause-played : goal.returns-clause-played
 returns-clause-played g c = subst (λ p. HasPlayedPost (initial_of c.args.self.now) c.args.value p c.add-turn.result.1.pass.now) c.begin_new-begun.ensures.still
-    (posts _ c.args.value c.add-turn.result.0 (parties_of c.begin_new-begun.result.pass.now) (parties_of c.add-turn.result.1.pass.now) c.ranges.value.fits (subst (λ call. Went (semaphore_model (initial_of c.args.self.now)) (Beginning call) (parties_of c.begin_new-begun.result.pass.now) c.add-turn.result.0 (parties_of c.add-turn.result.1.pass.now)) c.requires.post c.add-turn.ensures.went))
+    (posts _ c.args.value c.add-turn.result.0 (parties_of c.begin_new-begun.result.pass.now) (parties_of c.add-turn.result.1.pass.now) c.ranges.value.fits (subst (λ call. Went (semaphore_model (initial_of c.args.self.now)) (Beginning call) (parties_of c.begin_new-begun.result.pass.now) c.add-turn.result.0 (parties_of c.add-turn.result.1.pass.now)) c.requires.post c.add-turn.ensures.stepped.went))

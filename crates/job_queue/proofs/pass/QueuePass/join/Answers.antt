@@ -1,5 +1,5 @@
 use Rattle.running_passes.specs.Passes as passes
-use Rattle.running_mutex.specs.CondShown as conds
+use Rattle.running_condvar.specs.CondShown as conds
 use Rattle.running_spin_lock.specs.SpinShown as spins
 use Rattle.job_queue.specs.QueueShown.{mutex_in, changed_in, state_in}
 use Rattle.job_queue.proofs.pass.QueuePass.join.Goals as goal

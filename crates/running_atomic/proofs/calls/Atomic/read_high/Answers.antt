@@ -2,4 +2,4 @@ use Rattle.running_atomic.proofs.AtomicKeeps.{reads_high}
 use Rattle.running_atomic.proofs.calls.Atomic.read_high.Goals as goal
 
 pub returns-clause-read : goal.returns-clause-read
-returns-clause-read g c = reads_high _ _ _ c.args.turn.pass.now c.load.result.1.pass.now c.requires.may c.requires.on c.requires.goes_on c.load.ensures.acted
+returns-clause-read g c = reads_high _ _ _ c.args.turn.pass.now c.load.result.1.pass.now c.requires.may c.requires.on c.requires.goes_on c.load.ensures.stepped.acted

@@ -1,5 +1,5 @@
 use Rattle.running_guarded.proofs.Names.{ℕ, None, Often, HasWaitedOften, HasStayed, HasLockedOften, HasAnswered}
-use Rattle.running_mutex.specs.CondShown.{HasStayed as HasWaitedAtMost}
+use Rattle.running_condvar.specs.CondShown.{HasStayed as HasWaitedAtMost}
 use Rattle.running_guarded.proofs.guarded.Guarded.when.Given as goal
 
 abbrev pub invariant-loop : goal.invariant-loop

@@ -1,5 +1,5 @@
 use Rattle.running_mutex.specs.MutexShown.{HasStayed as HasLockedAtMost}
-use Rattle.running_mutex.specs.CondShown.{HasStayed}
+use Rattle.running_condvar.specs.CondShown.{HasStayed}
 use Rattle.test_sleep.proofs.tests.condition_variable.hand_on_often.Given as goal
 
 abbrev pub invariant-loop : goal.invariant-loop

@@ -1,6 +1,6 @@
 use Rattle.std.proofs.Common.{◌≡◌}
 use Rattle.running_mutex.specs.MutexShown.{pass_of, borrow_of, HasStayed as HasLockedAtMost}
-use Rattle.running_mutex.specs.CondShown.{HasStayed}
+use Rattle.running_condvar.specs.CondShown.{HasStayed}
 use Rattle.test_sleep.proofs.tests.condition_variable.until_turn.Given as goal
 
 abbrev pub invariant-loop : goal.invariant-loop

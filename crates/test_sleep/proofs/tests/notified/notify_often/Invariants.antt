@@ -1,4 +1,4 @@
-use Rattle.running_mutex.specs.CondShown.{IsCondPass}
+use Rattle.running_condvar.specs.CondShown.{IsCondPass}
 use Rattle.test_sleep.proofs.tests.notified.notify_often.Given as goal
 
 abbrev pub invariant-loop : goal.invariant-loop

@@ -1,5 +1,5 @@
 use Rattle.running_mutex.specs.MutexShown.{IsMutexPass}
-use Rattle.running_mutex.specs.CondShown.{IsCondPass}
+use Rattle.running_condvar.specs.CondShown.{IsCondPass}
 use Rattle.test_sleep.proofs.tests.notified.wait_often.Given as goal
 
 abbrev pub invariant-loop : goal.invariant-loop

@@ -1,6 +1,0 @@
-pub mod Faults
-pub mod Rounds
-pub mod Figures
-pub mod Columns
-pub mod Table
-pub mod Runs

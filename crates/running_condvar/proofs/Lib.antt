@@ -1,0 +1,5 @@
+pub mod Names
+pub mod CondKeeps
+pub mod CondPlays
+pub mod CondCalls
+pub mod Often

@@ -1,0 +1,5 @@
+pub mod Names
+pub mod Cond
+pub mod CondParties
+pub mod CondShown
+pub mod Often

@@ -1,0 +1,552 @@
+//! A condition variable: a call that has a mutex lets it go, waits to be notified, and locks it again.
+//!
+//! It does what `strategy::condition_variable` of the Rust crate does, but that a wait that gives up locks the mutex again too. It
+//! stands on the public calls of `Mutex` and `Semaphore`. A wait takes the pass out of the hold that it was handed, and builds the hold
+//! anew. Its count of those that wait plays a model of its own.
+#![tactic(auto)]
+
+ghost use Rattle.std.specs.Prelude.{◌≡◌, true, false, MatchBool, IfOk, Some, None};
+ghost use Rattle.model_events.specs.declared.event.Call.TheVariants as calls;
+ghost use Rattle.model_events.specs.declared.event.Answer.TheVariants as answers;
+ghost use Rattle.model_events.specs.declared.hold.HoldKind.TheVariants as kinds;
+ghost use Rattle.running_passes.specs.Answers.{MayAnswerAbort};
+ghost use Rattle.running_model.specs.Counts.{HasGivenUp};
+ghost use Rattle.running_model.specs.Passes.{parties_of, counts_of};
+ghost use Rattle.running_model.specs.Stages.{count_of};
+ghost use Rattle.running_semaphore.specs.SemaphoreShown.{initial_of};
+ghost use Rattle.running_mutex.specs.MutexShown.{IsMutexPass, IsAlone, IsLocked, HasEntered, HasPlayed};
+ghost use Rattle.running_mutex.specs.MutexParties.{HasMutex};
+ghost use Rattle.running_condvar.specs.CondParties.{HasWaitInside};
+ghost use Rattle.running_condvar.specs.Cond.{CountIsInside};
+
+mod shares;
+mod waits;
+
+pub use crate::waits::Waits;
+use crate::waits::{PlayedWaits, WaitersScript};
+use model_condvar::permits_for;
+use model_events::WaitAction;
+use model_events::event::Wake;
+use model_waiters::WaitersPlace;
+use running_model::Stage;
+use running_model::calls::{ValueCall, WaitCall};
+use running_model::turn::{AfterAside, Goes, Turn, begin_new};
+use running_mutex::{Mutex, MutexHold, MutexPass};
+use running_passes::{Pass, WaitResult};
+use running_semaphore::{SemPass, Semaphore};
+use running_tallies::WaitWord;
+use std::alloc::{AllocError, Allocator, Global};
+use std::sync::Wait;
+
+/// A condition variable.
+#[derive(Drop)]
+pub struct ConditionVariable<A: Allocator = Global> {
+    number_of_waiters: Stage<(), WaitersScript, WaitersPlace, u64, Waits, A>,
+    semaphore: Semaphore<A>,
+    ghost one_word: { count_of number_of_waiters ≡ 1 },
+    ghost no_permit: { initial_of semaphore ≡ 0 },
+}
+
+/// The right to call a condition variable, and what its owner did and saw there. No wait of its owner is under way.
+#[derive(Drop)]
+pub struct CondPass {
+    waits: Pass<PlayedWaits>,
+    permits: SemPass,
+    ghost outside: { (counts_of waits).ended ≡ (counts_of waits).begun },
+}
+
+/// That a wait is counted as waiting, and does not sleep yet. Nobody else makes one than `wait_around`, which lends it to the closure that
+/// lets the lock go.
+#[derive(Drop)]
+pub struct CountedWait<'p> {
+    turn: &'p Turn<'p, Pass<PlayedWaits>, Goes>,
+    ghost inside: { HasWaitInside (parties_of turn.now.pass.now) },
+}
+
+/// What a wait came to that has the mutex again.
+#[derive(Debug, Drop, PartialEq, Eq)]
+pub enum Woken<H> {
+    /// It took a permit, which a notify had given.
+    Signalled(H),
+    /// It gave up, and took none.
+    Unsignalled(H),
+}
+
+/// How a wait answers.
+#[derive(Debug, Drop, PartialEq, Eq)]
+pub enum CondResult<H> {
+    /// It took a permit, which a notify had given, and has the mutex.
+    Success(H),
+    /// With the mutex, it gave up and took no permit. Without it, the mutex was refused; it does not tell whether a permit was taken.
+    Interrupted(Option<H>),
+}
+
+impl<H> From<WaitResult<Woken<H>>> for CondResult<H> {
+    ghost use Rattle.running_condvar.specs.CondShown.{woken_of};
+
+    /// What `wait` answers where `wait_held` answers this.
+    #[inline(always)]
+    fn from(woken: WaitResult<Woken<H>>) -> CondResult<H>
+        ensures same { woken_of result ≡ woken }
+    {
+        match woken {
+            WaitResult::Success(Woken::Signalled(hold)) => CondResult::Success(hold),
+            WaitResult::Success(Woken::Unsignalled(hold)) => CondResult::Interrupted(Some(hold)),
+            WaitResult::Interrupted => CondResult::Interrupted(None),
+        }
+    }
+}
+
+impl CondPass {
+    ghost use Rattle.std.specs.Prelude.{is_ok};
+    ghost use Rattle.running_passes.specs.declared.part.Part.{Part};
+    ghost use Rattle.running_passes.specs.Parts.{half, IsAgain, IsSamePart, AddUp};
+    ghost use Rattle.running_passes.specs.Passes.{view, part_of};
+    ghost use Rattle.running_passes.specs.Views.{left_view, right_view, joined_view};
+    ghost use Rattle.running_model.specs.Passes.{core_played, both_played};
+    ghost use Rattle.running_tallies.specs.Semaphore.{no_permits, both_permits};
+    ghost use Rattle.running_condvar.specs.Cond.{no_waits, both_waits};
+    ghost use Rattle.running_condvar.specs.CondShown.{IsCondPass, waits_in, permits_in};
+
+    /// Two passes of the same condition variable. What they counted adds up to what this one had counted, and they weigh together what
+    /// it weighed. `Err`, which never comes today, would hand the pass back.
+    pub fn split<A: Allocator>(
+        self,
+        of: &ConditionVariable<A>,
+    ) -> Result<(CondPass, CondPass), CondPass>
+        requires own { IsCondPass of.now self }
+        ensures never_refused { is_ok result ≡ true }
+        ensures own { IfOk result (λ parts. IsCondPass of.now parts.0 × IsCondPass of.now parts.1) }
+        ensures first { IfOk result (λ parts. (view (waits_in parts.0) ≡ left_view (view (waits_in self))) × (view (permits_in parts.0) ≡ left_view (view (permits_in self)))) }
+        ensures second { IfOk result (λ parts. (view (waits_in parts.1) ≡ right_view (core_played (λ _. no_waits)) (view (waits_in self))) × (view (permits_in parts.1) ≡ right_view (core_played (λ _. no_permits)) (view (permits_in self)))) }
+        ensures weights { IfOk result (λ parts. AddUp (part_of (waits_in self)) (part_of (waits_in parts.0)) (part_of (waits_in parts.1)) × AddUp (part_of (permits_in self)) (part_of (permits_in parts.0)) (part_of (permits_in parts.1))) }
+    {
+        let CondPass { waits, permits } = self;
+        let Ok((waits, other_waits)) = waits.split(&of.number_of_waiters) else {
+            unreachable!()
+        };
+        let Ok((permits, other_permits)) = permits.split(&of.semaphore) else {
+            unreachable!()
+        };
+        Ok((
+            CondPass { waits, permits },
+            CondPass {
+                waits: other_waits,
+                permits: other_permits,
+            },
+        ))
+    }
+
+    /// One pass from two of the same condition variable, which counted what both did, and weighs what both weighed. `Err`, which never
+    /// comes today, would hand both back.
+    pub fn join<A: Allocator>(
+        a: CondPass,
+        b: CondPass,
+        of: &ConditionVariable<A>,
+    ) -> Result<CondPass, (CondPass, CondPass)>
+        requires own { IsCondPass of.now a × IsCondPass of.now b }
+        ensures never_refused { is_ok result ≡ true }
+        ensures own { IfOk result (IsCondPass of.now) }
+        ensures views { IfOk result (λ both. (view (waits_in both) ≡ joined_view (both_played both_waits) (view (waits_in a)) (view (waits_in b))) × (view (permits_in both) ≡ joined_view (both_played both_permits) (view (permits_in a)) (view (permits_in b)))) }
+        ensures weights { IfOk result (λ both. AddUp (part_of (waits_in both)) (part_of (waits_in a)) (part_of (waits_in b)) × AddUp (part_of (permits_in both)) (part_of (permits_in a)) (part_of (permits_in b))) }
+        ensures again { (p : Part) → IsSamePart (part_of (waits_in a)) (half p) → IsSamePart (part_of (waits_in b)) (half p) → IfOk result (λ both. IsAgain p (part_of (waits_in both))) }
+        ensures permits_again { (p : Part) → IsSamePart (part_of (permits_in a)) (half p) → IsSamePart (part_of (permits_in b)) (half p) → IfOk result (λ both. IsAgain p (part_of (permits_in both))) }
+    {
+        let CondPass { waits, permits } = a;
+        let CondPass {
+            waits: other_waits,
+            permits: other_permits,
+        } = b;
+        let Ok(waits) = Pass::join(waits, other_waits, &of.number_of_waiters) else {
+            unreachable!()
+        };
+        let Ok(permits) = SemPass::join(permits, other_permits, &of.semaphore) else {
+            unreachable!()
+        };
+        Ok(CondPass { waits, permits })
+    }
+}
+
+impl<A: Allocator> ConditionVariable<A> {
+    ghost use Rattle.std.specs.Borrow.{sem};
+    ghost use Rattle.std.specs.Prelude.{ℕ, List, ◌<◌, ◌⊎◌, min};
+    ghost use Rattle.running_passes.specs.Answers.{IfSuccess, IfInterrupted, IsSuccess, RestsIfInterrupted, HasWoken};
+    ghost use Rattle.running_passes.specs.Parts.{IsWhole};
+    ghost use Rattle.running_model.specs.Stages.{IsPassOf};
+    ghost use Rattle.running_model.specs.Counts.{HasSeen, HasDone};
+    ghost use Rattle.running_passes.specs.Passes.{view, part_of};
+    ghost use Rattle.running_passes.specs.Views.{first_view};
+    ghost use Rattle.running_model.specs.Slots.{no_parties};
+    ghost use Rattle.running_model.specs.Passes.{played};
+    ghost use Rattle.running_tallies.specs.Semaphore.{first_permits};
+    ghost use Rattle.running_model.specs.Slots.{Slot, all_of};
+    ghost use Rattle.running_condvar.specs.Cond.{no_waits, went_in, went_out, one_more};
+    ghost use Rattle.running_condvar.specs.CondParties.{IsInside, IsOut, Plays};
+    ghost use Rattle.running_semaphore.specs.SemaphoreShown.{IsSemPass, worth_of, HasTaken, HasPlayed as HasPlayedPermit};
+    ghost use Rattle.running_mutex.specs.MutexShown.{HasPlayedUnlock};
+    ghost use Rattle.running_mutex.specs.MutexShown.{mutex_row, holds_of, pass_of, borrow_of, HasUnlocked};
+    ghost use Rattle.running_condvar.specs.CondShown.{IsCondPass, waits_in, permits_in, HasGiven, HasNotified, held_by, woken_of, IfSignalled, IfUnsignalled, HasWaited, HasNotTaken, HasSlept, HasRegained, HasLeft, LeavesCounted, HasPlayedAgain};
+
+    /// A condition variable at which nobody waits, and the pass that is whole. `Err` where there was no memory; then nothing was made.
+    pub fn new(alloc: A) -> Result<(ConditionVariable<A>, CondPass), AllocError>
+    where
+        A: Copy,
+        ensures own { IfOk result (λ made. IsCondPass made.0 made.1) }
+        ensures first { IfOk result (λ made. (view (waits_in made.1) ≡ first_view (played no_parties no_waits)) × (view (permits_in made.1) ≡ first_view (played no_parties (first_permits 0)))) }
+    {
+        let (number_of_waiters, waits) = Stage::new(alloc, &[0], &())?;
+        let (semaphore, permits) = Semaphore::new(alloc, 0)?;
+        Ok((
+            ConditionVariable {
+                number_of_waiters,
+                semaphore,
+            },
+            CondPass { waits, permits },
+        ))
+    }
+
+    /// Looks at the count of those that wait, gives one permit where it is not 0 and none where it is, and then calls the wake closure
+    /// once, also for none.
+    #[inline(always)]
+    pub fn notify_one<W: Fn(&WaitWord)>(&self, pass: &mut CondPass, wake_one: W)
+        requires own { IsCondPass self.now pass.old }
+        requires may { W.IsAlwaysCallable wake_one }
+        ensures posted { HasNotified (λ waiting. min 1 waiting) pass.old pass.new }
+        ensures exact { IsWhole (part_of (waits_in pass.old)) → HasGiven 0 0 pass.old pass.new }
+        ensures woke { HasWoken W.Fn wake_one }
+    {
+        let waiting = self.waiting(&mut pass.waits);
+        self.semaphore.post(&mut pass.permits, wake_one, permits_for(Wake::One, waiting));
+    }
+
+    /// Looks at the count of those that wait, gives as many permits, and then calls the wake closure once, also for none.
+    #[inline(always)]
+    pub fn notify_all<W: Fn(&WaitWord)>(&self, pass: &mut CondPass, wake_all: W)
+        requires own { IsCondPass self.now pass.old }
+        requires may { W.IsAlwaysCallable wake_all }
+        ensures posted { HasNotified (λ waiting. waiting) pass.old pass.new }
+        ensures exact { IsWhole (part_of (waits_in pass.old)) → HasGiven 0 0 pass.old pass.new }
+        ensures woke { HasWoken W.Fn wake_all }
+    {
+        let waiting = self.waiting(&mut pass.waits);
+        self.semaphore.post(&mut pass.permits, wake_all, permits_for(Wake::All, waiting));
+    }
+
+    /// Counts the wait in, unlocks the mutex and calls its wake closure, waits for a permit as the semaphore's `wait` does, counts the
+    /// wait out, and locks the mutex again as its `lock` does. So `Interrupted` is without the mutex, after `mtx_wait` had answered
+    /// `Abort`; and `Unsignalled` is with it, after `wait` had.
+    #[inline(always)]
+    pub fn wait_held<
+        'p,
+        B: Allocator,
+        R: Wait,
+        K: Fn(&WaitWord),
+        W: Fn(&WaitWord, &u64) -> WaitAction,
+        M: Fn(&WaitWord, &u64) -> WaitAction,
+    >(
+        hold: MutexHold<'p>,
+        this: &Self,
+        rt: &R,
+        pass: &mut CondPass,
+        mtx: &Mutex<B>,
+        mtx_wake_one: K,
+        wait: W,
+        mtx_wait: M,
+    ) -> WaitResult<Woken<MutexHold<'p>>>
+        requires own { IsCondPass this.now pass.old × IsMutexPass mtx.now (pass_of hold) }
+        requires may { K.IsAlwaysCallable mtx_wake_one × W.IsAlwaysCallable wait × M.IsAlwaysCallable mtx_wait }
+        ensures* left { sem 𝓛 (RestsIfInterrupted mutex_row hold.entry.pass (λ woken. borrow_of (held_by woken)) result (λ q. HasLeft M.Fn mtx_wait (pass_of hold.entry) q × HasPlayedAgain answers.Interrupted None (pass_of hold.entry) q)) }
+        ensures relocked { IfSuccess result (λ woken. HasPlayedAgain answers.Success (Some kinds.Write) (pass_of hold.entry) (pass_of (held_by woken))) }
+        ensures took { IfSignalled result (HasPlayedPermit (initial_of this.now.semaphore) calls.Wait answers.Success (permits_in pass.old) (permits_in pass.new)) }
+        ensures took_none { IfUnsignalled result (HasPlayedPermit (initial_of this.now.semaphore) calls.Wait answers.Interrupted (permits_in pass.old) (permits_in pass.new)) }
+        ensures same_borrow { IfSuccess result (λ woken. borrow_of (held_by woken) ≡ borrow_of hold.entry) }
+        ensures regained { IfSuccess result (λ woken. HasRegained (pass_of hold.entry) (pass_of (held_by woken))) }
+        ensures counted { HasWaited pass.old pass.new }
+        ensures signalled { IfSignalled result (HasTaken (permits_in pass.old) (permits_in pass.new)) }
+        ensures unsignalled { IfUnsignalled result (HasNotTaken W.Fn wait pass.old pass.new) }
+        ensures gave_up { IfInterrupted result (HasTaken (permits_in pass.old) (permits_in pass.new) ⊎ HasNotTaken W.Fn wait pass.old pass.new) }
+        ensures aborted { IfInterrupted result (MayAnswerAbort M.Fn mtx_wait IsLocked) }
+        ensures exact { IsWhole (part_of (pass_of hold.entry)) → IsSuccess result }
+        ensures some { IsWhole (part_of (permits_in pass.old)) → 0 < worth_of (permits_in pass.old) → HasTaken (permits_in pass.old) (permits_in pass.new) }
+        ensures none { IsWhole (part_of (permits_in pass.old)) → worth_of (permits_in pass.old) ≡ 0 → HasNotTaken W.Fn wait pass.old pass.new }
+        ensures woke { HasWoken K.Fn mtx_wake_one }
+    {
+        let MutexHold { pass: mtx_pass } = hold;
+        let signalled = this.unlock_and_sleep(
+            rt,
+            &mut pass.waits,
+            &mut pass.permits,
+            mtx,
+            mtx_pass,
+            mtx_wake_one,
+            wait,
+        );
+        if !lock_again(mtx_pass, mtx, rt, mtx_wait) {
+            return WaitResult::Interrupted;
+        }
+        if signalled {
+            WaitResult::Success(Woken::Signalled(MutexHold { pass: mtx_pass }))
+        } else {
+            WaitResult::Success(Woken::Unsignalled(MutexHold { pass: mtx_pass }))
+        }
+    }
+
+    /// What `wait_held` does, with the answer of the Rust crate's later form: `Success` with the mutex and a permit, `Interrupted` with
+    /// the mutex and no permit, and `Interrupted` without the mutex, which does not tell whether a permit was taken.
+    ///
+    /// No clause says how the mutex's pass stands after the last; where that is wanted, call `wait_held`.
+    #[inline(always)]
+    pub fn wait<
+        'p,
+        B: Allocator,
+        R: Wait,
+        K: Fn(&WaitWord),
+        W: Fn(&WaitWord, &u64) -> WaitAction,
+        M: Fn(&WaitWord, &u64) -> WaitAction,
+    >(
+        hold: MutexHold<'p>,
+        this: &Self,
+        rt: &R,
+        pass: &mut CondPass,
+        mtx: &Mutex<B>,
+        mtx_wake_one: K,
+        wait: W,
+        mtx_wait: M,
+    ) -> CondResult<MutexHold<'p>>
+        requires own { IsCondPass this.now pass.old × IsMutexPass mtx.now (pass_of hold) }
+        requires may { K.IsAlwaysCallable mtx_wake_one × W.IsAlwaysCallable wait × M.IsAlwaysCallable mtx_wait }
+        ensures same_borrow { IfSuccess (woken_of result) (λ woken. borrow_of (held_by woken) ≡ borrow_of hold.entry) }
+        ensures regained { IfSuccess (woken_of result) (λ woken. HasRegained (pass_of hold.entry) (pass_of (held_by woken))) }
+        ensures counted { HasWaited pass.old pass.new }
+        ensures relocked { IfSuccess (woken_of result) (λ woken. HasPlayedAgain answers.Success (Some kinds.Write) (pass_of hold.entry) (pass_of (held_by woken))) }
+        ensures took { IfSignalled (woken_of result) (HasPlayedPermit (initial_of this.now.semaphore) calls.Wait answers.Success (permits_in pass.old) (permits_in pass.new)) }
+        ensures took_none { IfUnsignalled (woken_of result) (HasPlayedPermit (initial_of this.now.semaphore) calls.Wait answers.Interrupted (permits_in pass.old) (permits_in pass.new)) }
+        ensures signalled { IfSignalled (woken_of result) (HasTaken (permits_in pass.old) (permits_in pass.new)) }
+        ensures unsignalled { IfUnsignalled (woken_of result) (HasNotTaken W.Fn wait pass.old pass.new) }
+        ensures gave_up { IfInterrupted (woken_of result) (HasTaken (permits_in pass.old) (permits_in pass.new) ⊎ HasNotTaken W.Fn wait pass.old pass.new) }
+        ensures aborted { IfInterrupted (woken_of result) (MayAnswerAbort M.Fn mtx_wait IsLocked) }
+        ensures exact { IsWhole (part_of (pass_of hold.entry)) → IsSuccess (woken_of result) }
+        ensures some { IsWhole (part_of (permits_in pass.old)) → 0 < worth_of (permits_in pass.old) → HasTaken (permits_in pass.old) (permits_in pass.new) }
+        ensures none { IsWhole (part_of (permits_in pass.old)) → worth_of (permits_in pass.old) ≡ 0 → HasNotTaken W.Fn wait pass.old pass.new }
+        ensures woke { HasWoken K.Fn mtx_wake_one }
+    {
+        CondResult::from(Self::wait_held(hold, this, rt, pass, mtx, mtx_wake_one, wait, mtx_wait))
+    }
+
+    /// Counts the wait in, calls `leave`, by which its caller lets a lock of its own go, waits for a permit as the semaphore's `wait` does,
+    /// and counts the wait out. What `leave` gave, and `Success` where a permit was taken.
+    ///
+    /// It serves a lock of another kind than the mutex. `leave` is handed what only a counted wait has, so a notify that comes once the
+    /// lock is free sees the wait. The lock is the caller's to take again.
+    #[inline(always)]
+    pub fn wait_around<
+        R: Wait,
+        Y,
+        F: FnOnce(&CountedWait<'_>) -> Y,
+        W: Fn(&WaitWord, &u64) -> WaitAction,
+    >(&self, rt: &R, cond_pass: &mut CondPass, leave: F, wait: W) -> (Y, WaitResult<()>)
+        requires own { IsCondPass self.now cond_pass.old }
+        requires may { F.IsAlwaysCallable leave × W.IsAlwaysCallable wait }
+        ensures left { LeavesCounted F.FnOnce leave result.0 }
+        ensures counted { HasWaited cond_pass.old cond_pass.new }
+        ensures signalled { IfSuccess result.1 (λ _. HasTaken (permits_in cond_pass.old) (permits_in cond_pass.new)) }
+        ensures unsignalled { IfInterrupted result.1 (HasNotTaken W.Fn wait cond_pass.old cond_pass.new) }
+        ensures took { IfSuccess result.1 (λ _. HasPlayedPermit (initial_of self.now.semaphore) calls.Wait answers.Success (permits_in cond_pass.old) (permits_in cond_pass.new)) }
+        ensures took_none { IfInterrupted result.1 (HasPlayedPermit (initial_of self.now.semaphore) calls.Wait answers.Interrupted (permits_in cond_pass.old) (permits_in cond_pass.new)) }
+    {
+        let (left, signalled) = self.leave_and_sleep(
+            rt,
+            &mut cond_pass.waits,
+            &mut cond_pass.permits,
+            leave,
+            wait,
+        );
+        if signalled {
+            (left, WaitResult::Success(()))
+        } else {
+            (left, WaitResult::Interrupted)
+        }
+    }
+
+    /// What `wait_around` does, and whether a permit was taken.
+    #[inline(always)]
+    fn leave_and_sleep<
+        R: Wait,
+        Y,
+        F: FnOnce(&CountedWait<'_>) -> Y,
+        W: Fn(&WaitWord, &u64) -> WaitAction,
+    >(
+        &self,
+        rt: &R,
+        waits: &mut Pass<PlayedWaits>,
+        permits: &mut SemPass,
+        leave: F,
+        wait: W,
+    ) -> (Y, bool)
+        requires own { IsPassOf self.now.number_of_waiters waits.old × IsSemPass self.now.semaphore permits.old }
+        requires may { F.IsAlwaysCallable leave × W.IsAlwaysCallable wait }
+        ensures left { LeavesCounted F.FnOnce leave result.0 }
+        ensures counted { HasDone one_more waits.old waits.new }
+        ensures played { Plays calls.Wait answers.Done (parties_of waits.old) (parties_of waits.new) }
+        ensures slept { HasSlept W.Fn wait (initial_of self.now.semaphore) result.1 permits.old permits.new }
+    {
+        let counted = self.count_in(waits);
+        let left = leave(&CountedWait { turn: &counted });
+        let (signalled, _waits) = self.sleep(rt, counted, permits, wait);
+        (left, signalled)
+    }
+
+    /// What `wait_held` does until it locks the mutex again, and whether a permit was taken.
+    fn unlock_and_sleep<
+        B: Allocator,
+        R: Wait,
+        K: Fn(&WaitWord),
+        W: Fn(&WaitWord, &u64) -> WaitAction,
+    >(
+        &self,
+        rt: &R,
+        waits: &mut Pass<PlayedWaits>,
+        permits: &mut SemPass,
+        mtx: &Mutex<B>,
+        mtx_pass: &mut MutexPass,
+        mtx_wake_one: K,
+        wait: W,
+    ) -> bool
+        requires own { IsPassOf self.now.number_of_waiters waits.old × IsSemPass self.now.semaphore permits.old × IsMutexPass mtx.now mtx_pass.old }
+        requires on { holds_of mtx_pass.old ≡ 1 }
+        requires has { HasMutex (parties_of mtx_pass.old) }
+        requires may { K.IsAlwaysCallable mtx_wake_one × W.IsAlwaysCallable wait }
+        ensures unlocked { HasUnlocked mtx_pass.old mtx_pass.new }
+        ensures played_unlock { HasPlayedUnlock mtx_pass.old mtx_pass.new }
+        ensures counted { HasDone one_more waits.old waits.new }
+        ensures played { Plays calls.Wait answers.Done (parties_of waits.old) (parties_of waits.new) }
+        ensures slept { HasSlept W.Fn wait (initial_of self.now.semaphore) result permits.old permits.new }
+        ensures woke { HasWoken K.Fn mtx_wake_one }
+    {
+        let inside = self.count_in(waits);
+        mtx.unlock(MutexHold { pass: mtx_pass }, mtx_wake_one);
+        let (signalled, _outside) = self.sleep(rt, inside, permits, wait);
+        signalled
+    }
+
+    /// How many are counted as waiting.
+    #[inline(always)]
+    fn waiting(&self, waits: &mut Pass<PlayedWaits>) -> u64
+        requires own { IsPassOf self.now.number_of_waiters waits.old }
+        ensures saw { HasSeen result waits.old waits.new }
+        ensures played { Plays calls.Value (answers.Number result) (parties_of waits.old) (parties_of waits.new) }
+        ensures none { IsWhole (part_of waits.old) → (counts_of waits.old).ended ≡ (counts_of waits.old).begun → result ≡ 0 }
+    {
+        let begun = begin_new::<ValueCall, Pass<PlayedWaits>>(waits);
+        let (waiting, looked) = begun.load(&self.number_of_waiters, 0);
+        let _waits = looked.end(&self.number_of_waiters);
+        waiting
+    }
+
+    /// Counts a wait in.
+    #[inline(always)]
+    fn count_in<'p>(&self, waits: &'p mut Pass<PlayedWaits>) -> Turn<'p, Pass<PlayedWaits>, Goes>
+        requires own { IsPassOf self.now.number_of_waiters waits.old }
+        ensures same_borrow { result.pass.ghost_name ≡ waits.entry.ghost_name }
+        ensures counted { HasDone went_in waits.old result.pass.now }
+        ensures inside { IsInside (all_of (parties_of waits.old)) (parties_of result.pass.now) }
+    {
+        let begun = begin_new::<WaitCall, Pass<PlayedWaits>>(waits);
+        let (_, counted) = begun.add(&self.number_of_waiters, 0, 1);
+        counted
+    }
+
+    /// Waits for a permit, as the counted wait is to do until it is counted out, and counts it out. Whether a permit was taken, and the pass of
+    /// the count.
+    #[inline(always)]
+    fn sleep<'p, R: Wait, W: Fn(&WaitWord, &u64) -> WaitAction>(
+        &self,
+        rt: &R,
+        counted: Turn<'p, Pass<PlayedWaits>, Goes>,
+        permits: &mut SemPass,
+        wait: W,
+    ) -> (bool, &'p mut Pass<PlayedWaits>)
+        requires own { IsPassOf self.now.number_of_waiters counted.pass.now × IsSemPass self.now.semaphore permits.old }
+        requires inside { (done : List (Slot ℕ)) × IsInside done (parties_of counted.pass.now) }
+        requires may { W.IsAlwaysCallable wait }
+        ensures same_borrow { result.1.ghost_name ≡ counted.entry.pass.ghost_name }
+        ensures counted { HasDone went_out counted.entry.pass.now result.1.now }
+        ensures out { (done : List (Slot ℕ)) → IsInside done (parties_of counted.entry.pass.now) → IsOut done (parties_of result.1.now) }
+        ensures slept { HasSlept W.Fn wait (initial_of self.now.semaphore) result.0 permits.old permits.new }
+    {
+        let (signalled, slept) = counted.run(
+            &self.number_of_waiters,
+            permits,
+            |permits: &mut SemPass| -> bool
+                requires { IsSemPass self.now.semaphore permits.old × W.IsAlwaysCallable wait }
+                ensures { HasSlept W.Fn wait (initial_of self.entry.now.semaphore) result permits.old permits.new }
+            { self.take(rt, permits, wait) },
+        );
+        (signalled, self.count_out(slept))
+    }
+
+    /// Counts a wait out, once what it does while it is counted has ended.
+    #[inline(always)]
+    fn count_out<'p>(
+        &self,
+        slept: Turn<'p, Pass<PlayedWaits>, AfterAside>,
+    ) -> &'p mut Pass<PlayedWaits>
+        requires own { IsPassOf self.now.number_of_waiters slept.pass.now }
+        requires inside { (done : List (Slot ℕ)) × IsInside done (parties_of slept.pass.now) }
+        ensures same_borrow { result.ghost_name ≡ slept.entry.pass.ghost_name }
+        ensures counted { HasDone went_out slept.entry.pass.now result.now }
+        ensures out { (done : List (Slot ℕ)) → IsInside done (parties_of slept.entry.pass.now) → IsOut done (parties_of result.now) }
+    {
+        let (_, over) = slept.subtract(&self.number_of_waiters, 0, 1);
+        over.end(&self.number_of_waiters)
+    }
+
+    /// The semaphore's `wait`, and whether a permit was taken.
+    #[inline(always)]
+    fn take<R: Wait, W: Fn(&WaitWord, &u64) -> WaitAction>(
+        &self,
+        rt: &R,
+        permits: &mut SemPass,
+        wait: W,
+    ) -> bool
+        requires own { IsSemPass self.now.semaphore permits.old }
+        requires may { W.IsAlwaysCallable wait }
+        ensures slept { HasSlept W.Fn wait (initial_of self.now.semaphore) result permits.old permits.new }
+    {
+        match self.semaphore.wait(rt, permits, wait) {
+            WaitResult::Success(()) => true,
+            WaitResult::Interrupted => false,
+        }
+    }
+}
+
+/// Locks the mutex, and tells whether it is locked.
+#[inline(always)]
+fn lock_again<A: Allocator, R: Wait, M: Fn(&WaitWord, &u64) -> WaitAction>(
+    pass: &mut MutexPass,
+    mtx: &Mutex<A>,
+    rt: &R,
+    mtx_wait: M,
+) -> bool
+    requires own { IsMutexPass mtx.now pass.old }
+    requires may { M.IsAlwaysCallable mtx_wait }
+    ensures locked { MatchBool result (HasEntered pass.old pass.new) (HasGivenUp M.Fn mtx_wait IsLocked pass.old pass.new) }
+    ensures played { MatchBool result (HasPlayed calls.Lock answers.Success (Some kinds.Write) pass.old pass.new) (HasPlayed calls.Lock answers.Interrupted None pass.old pass.new) }
+    ensures has { result ≡ true → HasMutex (parties_of pass.new) }
+    ensures exact { IsAlone pass.old → result ≡ true }
+    ensures aborted { result ≡ false → MayAnswerAbort M.Fn mtx_wait IsLocked }
+{
+    match Mutex::lock(pass, mtx, rt, mtx_wait) {
+        WaitResult::Success(hold) => {
+            let MutexHold { pass: _ } = hold;
+            true
+        }
+        WaitResult::Interrupted => false,
+    }
+}
+
+/// Whenever the rule of the count holds, its passes are the parties of a run of its model, and its word is how many of them wait, modulo
+/// 2^64: all that were counted in, but those that were counted out. Says so of the rule alone, and does nothing.
+pub fn count_is_those_inside()
+    ensures { CountIsInside }
+{}

@@ -1,9 +1,0 @@
-use Rattle.running_mutex.proofs.Names.{min, refl, ◌∙◌, ap}
-use Rattle.running_mutex.proofs.CondCalls.{notifies, gives_none}
-use Rattle.running_mutex.proofs.condition_variable.ConditionVariable.notify_one.Goals as goal
-
-pub returns-clause-posted : goal.returns-clause-posted
-returns-clause-posted g c = notifies _ _ _ _ c.args.pass.now _ c.args.self.now.no_permit (c.permits_for.ensures.one refl) c.waiting-waiting.ensures.saw c.waiting-waiting.ensures.played c.post.ensures.given c.post.ensures.played
-
-pub returns-clause-exact : goal.returns-clause-exact
-returns-clause-exact g c = gives_none _ _ c.args.pass.now _ c.waiting-waiting.ensures.saw c.post.ensures.given c.waiting-waiting.ensures.none c.args.pass.now.outside (λ none. c.permits_for.ensures.one refl ∙ ap (min 1) none)
