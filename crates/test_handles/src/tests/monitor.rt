@@ -46,21 +46,30 @@ fn each_number_that_is_put_is_taken_once(rt: HostRuntime) -> Result<(), Fail> {
     Ok(())
 }
 
-fn count_down<R: Wait>(rt: &R, mut handle: MonitorHandle<'_, u64>) {
-    handle.change(rt, |left| *left = left.saturating_sub(1));
+/// Counts down once, or waits until all have, and tells how often it counted.
+fn count_down_or_wait<R: Wait>(rt: &R, party: (bool, MonitorHandle<'_, u64>)) -> u64 {
+    let (waits, mut handle) = party;
+    if waits {
+        handle.when(rt, |left| (*left == 0).then_some(*left))
+    } else {
+        handle.change(rt, |left| *left = left.saturating_sub(1));
+        1
+    }
 }
 
 #[test]
 fn who_waits_for_a_change_is_woken_by_it(rt: HostRuntime) -> Result<(), Fail> {
     let (left, passes) = SleepingMonitor::new(rt.alloc(), 3u64)?;
-    let (mut last, others) = left.handle(passes).split();
-    let handles = others.split_into(rt.alloc(), 3)?;
-    let (ended, found) = thread::join(
-        &rt,
-        || thread::map_vec(&rt, handles, &|handle| count_down(&rt, handle)),
-        || last.when(&rt, |left| (*left == 0).then_some(*left)),
-    );
-    let _ended = ended?;
-    assert_eq!(rt; found, 0);
+    let (last, others) = left.handle(passes).split();
+    let mut parties = Vec::new(rt.alloc());
+    parties.push((true, last))?;
+    for handle in others.split_into(rt.alloc(), 3)? {
+        parties.push((false, handle))?;
+    }
+    let mut counted = 0u64;
+    for each in thread::map_vec(&rt, parties, &|party| count_down_or_wait(&rt, party))? {
+        counted = counted.wrapping_add(each);
+    }
+    assert_eq!(rt; counted, 3);
     Ok(())
 }
