@@ -1,60 +1,94 @@
 //! A bounded buffer: one thread puts a thousand numbers through sixteen places, and four take them and add their squares up.
 //!
-//! Who puts sleeps while there is no room, and who takes while there is nothing. Once the buffer is closed and empty, who takes leaves.
+//! One semaphore counts the free places, another the numbers that wait. Who finds none sleeps.
 #![tactic(auto)]
 
 use circular_buffer::HeapCircularBuffer;
-use sleeping_monitor::{MonitorHandle, SleepingMonitor};
+use sleeping_guarded::{GuardedHandle, SleepingGuarded};
+use sleeping_semaphore::{SemaphoreHandle, SleepingSemaphore};
+use std::alloc::AllocError;
 use std::sync::Wait;
 use std::{io, thread};
 
 const NUMBERS: u64 = 1000;
 
-const PLACES: usize = 16;
+const PLACES: u64 = 16;
 
-const TAKERS: usize = 4;
+const TAKERS: u64 = 4;
 
+/// What a thread needs of the buffer. In it `None` says that no number comes any more.
 #[derive(Drop)]
-struct Buffer {
-    numbers: HeapCircularBuffer<u64>,
-    is_closed: bool,
+struct Party<'b> {
+    free: SemaphoreHandle<'b>,
+    waiting: SemaphoreHandle<'b>,
+    numbers: GuardedHandle<'b, HeapCircularBuffer<Option<u64>>>,
 }
 
-/// What there is for who takes.
-#[derive(Drop)]
-enum Taken {
-    Number(u64),
-    Closed,
-}
-
-impl Buffer {
-    /// Puts a number, where there is room.
-    fn put(&mut self, number: u64) -> Option<()> {
-        self.numbers.try_push_back(number).ok()
+impl<'b> Party<'b> {
+    /// Puts a number, once there is a free place.
+    fn put<R: Wait>(&mut self, rt: &R, number: Option<u64>) {
+        self.free.wait(rt);
+        let _had_place = self
+            .numbers
+            .with(rt, |numbers| numbers.try_push_back(number).is_ok());
+        self.waiting.post(1);
     }
 
-    /// Takes the oldest number; `None` where there is none yet.
-    fn take(&mut self) -> Option<Taken> {
-        match self.numbers.pop_front() {
-            Some(number) => Some(Taken::Number(number)),
-            None => self.is_closed.then_some(Taken::Closed),
-        }
+    /// Takes the oldest number, once there is one.
+    fn take<R: Wait>(&mut self, rt: &R) -> Option<u64> {
+        self.waiting.wait(rt);
+        let number = self.numbers.with(rt, |numbers| numbers.pop_front());
+        self.free.post(1);
+        number.unwrap_or(None)
+    }
+
+    /// Two, for a thread more.
+    fn split(self) -> (Party<'b>, Party<'b>) {
+        let Party {
+            free,
+            waiting,
+            numbers,
+        } = self;
+        let (free, other_free) = free.split();
+        let (waiting, other_waiting) = waiting.split();
+        let (numbers, other_numbers) = numbers.split();
+        let other = Party {
+            free: other_free,
+            waiting: other_waiting,
+            numbers: other_numbers,
+        };
+        let party = Party {
+            free,
+            waiting,
+            numbers,
+        };
+        (party, other)
     }
 }
 
 fn main(rt: HostRuntime) -> io::Result<()> {
-    let numbers = HeapCircularBuffer::with_capacity(rt.alloc(), PLACES)?;
-    let buffer = Buffer {
-        numbers,
-        is_closed: false,
+    let (free, free_pass) = SleepingSemaphore::new(rt.alloc(), PLACES)?;
+    let (waiting, waiting_pass) = SleepingSemaphore::new(rt.alloc(), 0)?;
+    let numbers = HeapCircularBuffer::with_capacity(rt.alloc(), PLACES as usize)?;
+    let Ok((numbers, numbers_pass)) = SleepingGuarded::new(rt.alloc(), numbers) else {
+        return Err(AllocError)?;
     };
-    let (buffer, passes) = SleepingMonitor::new(rt.alloc(), buffer)?;
-    let (puts, takes) = buffer.handle(passes).split();
-    let takers = takes.split_into(rt.alloc(), TAKERS)?;
+    let whole = Party {
+        free: free.handle(free_pass),
+        waiting: waiting.handle(waiting_pass),
+        numbers: numbers.handle(numbers_pass),
+    };
+    let (puts, mut rest) = whole.split();
+    let mut takers = Vec::new(rt.alloc());
+    for _ in 0..TAKERS {
+        let (party, other) = rest.split();
+        takers.push(party)?;
+        rest = other;
+    }
     let ((), sums) = thread::join(
         &rt,
         || put_all(&rt, puts),
-        || thread::map_vec(&rt, takers, &|handle| sum_of_squares(&rt, handle)),
+        || thread::map_vec(&rt, takers, &|party| sum_of_squares(&rt, party)),
     );
     let mut sum = 0u64;
     for part in sums? {
@@ -63,23 +97,23 @@ fn main(rt: HostRuntime) -> io::Result<()> {
     println!(rt; "{NUMBERS} squares, {sum} in all")
 }
 
-/// Puts all numbers, each once there is room, and closes the buffer.
-fn put_all<R: Wait>(rt: &R, mut handle: MonitorHandle<'_, Buffer>) {
+/// Puts all numbers, and for each taker that no more come.
+fn put_all<R: Wait>(rt: &R, mut party: Party<'_>) {
     for number in 0..NUMBERS {
-        handle.when(rt, |buffer| buffer.put(number));
+        party.put(rt, Some(number));
     }
-    handle.change(rt, |buffer| buffer.is_closed = true);
+    for _ in 0..TAKERS {
+        party.put(rt, None);
+    }
 }
 
-/// Takes numbers until the buffer is closed and empty, and adds their squares up.
-fn sum_of_squares<R: Wait>(rt: &R, mut handle: MonitorHandle<'_, Buffer>) -> u64 {
+/// Takes numbers until none come any more, and adds their squares up.
+fn sum_of_squares<R: Wait>(rt: &R, mut party: Party<'_>) -> u64 {
     let mut sum = 0u64;
     for _ in rt.forever() {
-        match handle.when(rt, |buffer| buffer.take()) {
-            Taken::Number(number) => {
-                sum = sum.wrapping_add(number.wrapping_mul(number));
-            }
-            Taken::Closed => return sum,
+        match party.take(rt) {
+            Some(number) => sum = sum.wrapping_add(number.wrapping_mul(number)),
+            None => return sum,
         }
     }
     sum
