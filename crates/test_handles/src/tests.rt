@@ -1,6 +1,7 @@
 //! Calls on their happy path, refusals beside a holder, and threads that sleep and are woken. What these need of a handle is said by its type.
 mod guarded;
 mod mutex;
+mod refusals;
 mod rw_value;
 mod semaphore;
 
