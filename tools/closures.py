@@ -12,8 +12,11 @@ import pathlib
 import re
 import sys
 
-LITERAL = re.compile(r"(?:^|[(,=&]\s*|\bmove )\|[^|]*\|")
+LITERAL = re.compile(r"(?:^|[(,=&>{]\s*|\bmove )\|[^|]*\|")
 CALLED = re.compile(r"(?<![\w.:])(?:running_passes::wake|wait|wakeup|wake|wake_one|wake_all|mtx_wait|mtx_wake_one|leave|act|f|make|choose)\)?\(|::call\w*\(")
+# In `running_model`, what calls one in the end. Elsewhere, another name for one.
+CALLS = re.compile(r"(?<!fn )(?<![\w.])(?:answer|call)\(")
+RENAMES = re.compile(r"\blet (?!_)\w+ = &?(?:wait|wakeup|wake|wake_one|wake_all|mtx_wait|mtx_wake_one|leave|act|f|make|choose);")
 # A step on a table or on words that is no turn's: a turn's names the rule or the object first.
 STEP = re.compile(r"(?:\.|::)(?:(?:load|store|swap|fetch_\w+|compare_exchange\w*|\w+_new_seat)::<(?!_,)|learn\()")
 SAID = re.compile(r"(?<!fn )\bspend\(|\bBy::<|::<(?:\w+, )*Brand\b|^impl\b.*\bWay<")
@@ -36,7 +39,9 @@ def tells(line, is_playing):
         return True
     if line.startswith(("//", "ghost", "requires", "ensures", "fn ", "pub fn ", "pub(crate) fn ")):
         return False
-    return bool(LITERAL.search(line) or CALLED.search(line) or not is_playing and (SAID.search(line) or STEP.search(line)))
+    if is_playing and CALLS.search(line) or not is_playing and (RENAMES.search(line) or SAID.search(line) or STEP.search(line)):
+        return True
+    return bool(LITERAL.search(line) or CALLED.search(line))
 
 
 def found(root):

@@ -30,6 +30,7 @@ TESTED = {
     "running_spin_lock SpinLock::new": "a_spin_lock_that_finds_no_memory_hands_its_value_back",
     "sleeping_guarded GuardedHandle::split_into": "handles_that_find_no_memory",
     "sleeping_guarded SleepingGuarded::new": "objects_that_find_no_memory",
+    "sleeping_monitor SleepingMonitor::new": "objects_that_find_no_memory",
     "sleeping_mutex MutexHandle::split_into": "handles_that_find_no_memory",
     "sleeping_mutex SleepingMutex::new": "objects_that_find_no_memory",
     "sleeping_rw_value RwValueHandle::split_into": "handles_that_find_no_memory",

@@ -51,12 +51,16 @@ def said(ask):
 
 def main():
     rt = kit()
-    # of a copy, as the kit's gate of some crates: beside the checkout's history there are copies of the crates, which it would find
+    # of a copy: beside the checkout's history there are copies of the crates, which it would find
     with tempfile.TemporaryDirectory() as room:
-        rt.copy_crates(os.getcwd(), f"{room}/copy")
+        shutil.copytree("crates", f"{room}/copy/crates", ignore=shutil.ignore_patterns("out"))
+        for name in ("crates.txt", "HANDLES"):
+            shutil.copy(name, f"{room}/copy")
         os.chdir(f"{room}/copy")
         rt.Crate.allowed = rt.handles_of(os.getcwd())
-        crates = said(lambda: rt.crates_of(os.getcwd()))
+        # some kits ask where to put what earlier runs left
+        aside = [room] * (rt.crates_of.__code__.co_argcount - 1)
+        crates = said(lambda: rt.crates_of(os.getcwd(), *aside))
         if isinstance(crates, str):
             print(f"crates: {crates}")
             return

@@ -12,7 +12,9 @@ import sys
 
 NO_ANSWERS = ("waits", "wakes", "chooses")
 VERBS = ("go", "run", "wait", "abort", "some", "none")
-CLOSURES = ("aborts", "may", "sleeps")
+CLOSURES = ("aborts", "may", "sleeps", "serves")
+# What a line says of a party, which no text tells.
+COURSES = (" loops for ever", " waits for itself")
 
 
 def variables_of(question):
@@ -246,10 +248,11 @@ def holds(term, question, text, entries, output):
     # What variables hold, and what parties are about to do to them, no text tells.
     if first == "race" or first in variables_of(question):
         return True
-    if term == "stuck":
-        begun = [entry.split()[0] for entry in entries if tuple(entry.split(" ", 1)) in calls_of(question)]
-        under_way = [party for party in set(begun) if begun.count(party) > len(answers_in(output).get(party, []))]
-        return bool(under_way) and all(stands(party, entries, output) for party in under_way)
+    # Nor what comes in no continuation.
+    if term == "stuck" or what in ("stuck", "for ever"):
+        return True
+    if what == "sleeps for ever":
+        return stands(first, entries, output)
     if not first.isdigit():
         words = output.splitlines()[-1].split(" failed ")[0].split()
         return what == dict(zip(words[::2], words[1::2]))[first]
@@ -269,10 +272,13 @@ def wrong_outcomes(question, answer):
     """What is wrong with the lines of an answer to a question that asks for nothing."""
     wrong = []
     for line in answer.splitlines()[:-1]:
-        outcome, _, text = line.partition(" : ")
+        outcome, _, text = line.partition(": " if line.startswith(".. and ") else " : ")
         entries = text.split(" / ") if text else []
         played = run("./sync-play", "\n".join([question.splitlines()[0], *entries]) + "\n")
-        if variables_of(question):
+        outcome = " | ".join(part for part in outcome.split(" | ") if not part.endswith(COURSES))
+        if line.startswith(".. and "):
+            wrong += [played.stderr.strip()] if played.returncode else []
+        elif variables_of(question):
             if played.returncode != 0 or not is_told_client(question, entries, played.stdout, outcome):
                 wrong.append(f"{text}: {played.stderr.strip() or played.stdout}, and not {outcome}")
         elif played.returncode != 0 or told(question, entries, played.stdout) != outcome:

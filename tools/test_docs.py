@@ -40,8 +40,8 @@ def quoted(page, stem, endings=("txt", "out", "err")):
 def asked(stem):
     """Whether the explorer's page shows the question with its answer, as they are, or has a row of it, with links to both: of a fault to the advice."""
     page, name = "docs/EXPLORE.md", os.path.basename(stem)
-    answer = f"[fault](../{stem}.advice)" if read(f"{stem}.err") else f"[answer](../{stem}.out)"
-    rows = [row for row in TEXTS[page].splitlines() if row.startswith(f"| [{name}](../{stem}.txt): {answer} |")]
+    answer = f"[fault](../{stem}.advice)" if read(f"{stem}.advice") else f"[answer](../{stem}.out)"
+    rows = [row for row in TEXTS[page].splitlines() if row.startswith("| ") and f"[{name}](../{stem}.txt): {answer}" in row.split(" | ")[0]]
     if len(rows) > 1:
         return f"{page} has {len(rows)} rows of it"
     if not rows:

@@ -15,6 +15,6 @@ test_explore() {
     done
     attempt python3 tools/brute.py --random 200 1
     judge_line "tools/brute.py" 0 "200 questions, 0 wrong" ""
-    attempt python3 tools/brute.py --clients 200 1
-    judge_line "tools/brute.py, of clients" 0 "200 questions, 0 wrong" ""
+    attempt python3 tools/brute.py --clients 300 1
+    judge_line "tools/brute.py, of clients" 0 "300 questions, 0 wrong" ""
 }

@@ -13,12 +13,13 @@ fn main(rt: HostRuntime) -> io::Result<()> {
     let (mut last, others) = count.handle(pass).split();
     let handles = others.split_into(rt.alloc(), 4)?;
     let _ended = thread::map_vec(&rt, handles, &|handle| count_often(&rt, handle))?;
-    println!(rt; "{}", last.with(&rt, |number| *number))
+    println!(rt; "{}", *last.lock(&rt))
 }
 
 /// Counts a thousand times.
 fn count_often<R: Wait>(rt: &R, mut handle: GuardedHandle<'_, u64>) {
     for _ in 0..1000u64 {
-        handle.with(rt, |number| *number = number.wrapping_add(1));
+        let mut number = handle.lock(rt);
+        *number = number.wrapping_add(1);
     }
 }

@@ -1,4 +1,9 @@
 -- What a step makes of what a pass saw and knows, and what the run says of it.
+use Rattle.std.specs.Prelude.{◌*◌}
+use Rattle.std.proofs.lemmas.Nat.{div-add-mod'}
+use Rattle.running_model.proofs.Words.{hold_at}
+use Rattle.running_barrier.specs.Names.{word_of}
+use Rattle.running_barrier.specs.BarrierSteps.{WordCountsArrivals}
 use Rattle.running_barrier.proofs.Names.{sum, Word, Intent, count_of, arrivals_in, full_rounds, View, IsWhole, total, left_view, right_view, joined_view, sum_of, view, parties_of, counted, Coming, MayStep, none_played, both_played, core_played, played_add_up, IsShare, Acted, Rounds, both_counts, in_round, no_rounds, both_rounds, known_rounds, reaching, arrived, rounds_after, AreRounds, AreRoundsIn, barrier_model, ◌≡◌, ℕ, ◌+◌, ◌/◌, ◌%◌, ◌^◌, ◌<◌, List, [], ◌∷◌, Some, sym, refl, ap, ◌∙◌, arith, carried_out, value_told, sights_after, of_a_run, done_so, missed_so, sum_at, in_both, rounds_add_up, sum_cons, sum_more, by_count, again, arrives, BarrierView, ArrivalsAreOfARun, OpenRoundsAreFull, Says, HasAll, Loaded, Arrives, Exchanged, BarrierPass, counts_of, arrivals_of, nat_tests, eqb-true, eqb-false}
 
 sum_both : (xs ys : List ℕ) → sum (both_counts xs ys) ≡ sum xs + sum ys
@@ -38,6 +43,16 @@ exchanges n h1 way from to found p q h2 h3 h4 = grind (arith, nat_tests, eqb-tru
 
 pub arrivals_are_of_a_run : ArrivalsAreOfARun
 arrivals_are_of_a_run n s r = of_a_run (barrier_model n) (Word.State ∷ []) (λ _ _ _. Unit {0}) (AreRoundsIn n) s.words s.homes (sum_of (none_played no_rounds) (both_played both_rounds) s.views) r.agree
+
+-- and the word is what they counted come to
+pub word_counts : WordCountsArrivals
+word_counts n s r =
+    let held = hold_at (Word.State ∷ []) s.words 0 Word.State _ r.agree.played.hold refl in
+    let is = r.agree.follows in
+    held ∙ r.agree.played.law.law.counts ∙ word_so n (arrivals_in r.agree.played.past) (sum_of (none_played no_rounds) (both_played both_rounds) s.views).counts is.all is.opened (div-add-mod' (arrivals_in r.agree.played.past) n)
+  where
+    word_so : (n a : ℕ) (t : Rounds) → sum t.arrivals ≡ a → t.opened ≡ a / n → a / n * n + a % n ≡ a → a / n % 2 ^ 32 * 2 ^ 32 + a % n ≡ word_of n t
+    word_so n a t h1 h2 h3 = grind (arith, nat_tests, eqb-true, eqb-false)
 
 -- the law of open rounds
 

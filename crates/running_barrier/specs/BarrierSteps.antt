@@ -1,5 +1,5 @@
 -- What holds whenever the rule of a barrier does, and what a step changes in a pass.
-use Rattle.std.specs.Prelude.{◌≡◌, ◌≢◌, ℕ, ◌+◌, ◌%◌, ◌^◌, ◌<◌, ◌≤◌, [], ◌∷◌}
+use Rattle.std.specs.Prelude.{◌≡◌, ◌≢◌, ℕ, ◌+◌, ◌%◌, ◌^◌, ◌<◌, ◌≤◌, [], ◌∷◌, slice_index}
 use Rattle.running_barrier.specs.Names.{sum, Word, BarrierPlace, epoch_of, count_of, barrier_model, View, IsWhole, total, stale, view_of, looked, missed, sum_of, IsCounted, Played, none_played, both_played, PlaysAndCounts, IsOfARun, Rounds, BarrierScript, one_more, in_round, no_rounds, both_rounds, reaching, word_of, AreRoundsIn, some, get_elem?, State}
 
 -- what the pass of a barrier knows
@@ -18,6 +18,10 @@ ArrivalsAreOfARun = (n : ℕ) (s : State (Unit {0}) BarrierView) → IsRuled n s
 abbrev pub OpenRoundsAreFull : Type 0
 OpenRoundsAreFull = (n : ℕ) (s : State (Unit {0}) BarrierView) → IsRuled n s → (i : ℕ) (v : BarrierView) → get_elem? s.views i ≡ some v
     → (round : ℕ) → round < v.tally.counts.reached → total (λ u. in_round round u.tally.counts.arrivals) s.views ≡ n
+
+-- and the word is what they counted together come to: the rounds that they opened, modulo 2 ^ 32, and the arrivals of the next one
+abbrev pub WordCountsArrivals : Type 0
+WordCountsArrivals = (n : ℕ) (s : State (Unit {0}) BarrierView) → IsRuled n s → slice_index s.words 0 ≡ word_of n (sum_of (none_played no_rounds) (both_played both_rounds) s.views).counts
 
 -- so many rounds are known to be open
 abbrev pub reaches : ℕ → View Rounds → View Rounds

@@ -8,7 +8,7 @@
 ghost use Rattle.std.specs.Prelude.{◌≡◌, ℕ, ◌≢◌, ◌<◌, ◌+◌, IfOk, MatchBool};
 ghost use Rattle.running_model.specs.Passes.{parties_of, counts_of as tally_of, counted};
 ghost use Rattle.running_model.specs.Stages.{count_of as words_of, key_of};
-ghost use Rattle.running_barrier.specs.BarrierSteps.{ArrivalsAreOfARun, OpenRoundsAreFull};
+ghost use Rattle.running_barrier.specs.BarrierSteps.{ArrivalsAreOfARun, OpenRoundsAreFull, WordCountsArrivals};
 ghost use Rattle.model_barrier.specs.Rounds.{epoch_of, count_of};
 
 mod shares;
@@ -361,4 +361,11 @@ pub fn open_rounds_are_full()
 #[tactic(auto, using(crate::proofs::BarrierKeeps::arrivals_are_of_a_run))]
 pub fn arrivals_are_of_a_run()
     ensures { ArrivalsAreOfARun }
+{}
+
+/// Whenever the rule of a barrier holds, its word is what all passes counted together come to: the rounds that they opened, modulo 2^32, and the
+/// arrivals of the next. Says so of the rule alone, and does nothing.
+#[tactic(auto, using(crate::proofs::BarrierKeeps::word_counts))]
+pub fn word_counts_arrivals()
+    ensures { WordCountsArrivals }
 {}

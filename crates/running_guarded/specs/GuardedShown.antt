@@ -54,9 +54,16 @@ module _ {T A : Type 0} where
   abbrev pub view_with : Guard T A → MutexView
   view_with g = g.seat.me.0
 
+  -- which value and which of its passes the guard stands for
+  abbrev pub id_in : Guard T A → TableId
+  id_in g = g.seat.table_id
+
+  abbrev pub number_in : Guard T A → ℕ
+  number_in g = g.seat.id
+
   -- the guard stands for this pass
   abbrev pub IsOf : GuardedPass → Guard T A → Type 0
-  IsOf p g = (g.seat.table_id ≡ object_of p) × (g.seat.id ≡ number_of p)
+  IsOf p g = (id_in g ≡ object_of p) × (number_in g ≡ number_of p)
 
   -- the hold, which was off, is on by one more grant, and nothing else changed
   abbrev pub HasLocked : GuardedPass → Guard T A → Type 0

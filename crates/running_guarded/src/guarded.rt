@@ -262,8 +262,9 @@ impl<T, A: Allocator> Guarded<T, A> {
         (seat, value)
     }
 
-    /// What `unlock` does, by a seat, and the pass of it.
-    pub(crate) fn sit<W: Fn(&GuardedWord<'_, T>)>(
+    /// What `unlock` does, by the seat of a guard that was taken apart; and the pass of it.
+    #[inline(always)]
+    pub fn sit<W: Fn(&GuardedWord<'_, T>)>(
         &self,
         seat: Seat<Option<T>, View<PlayedMutex>>,
         value: T,

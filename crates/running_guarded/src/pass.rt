@@ -82,6 +82,33 @@ impl GuardedPass {
         Ok(GuardedPass::seated(seat))
     }
 
+    /// Half of this pass, which keeps the other half: what `split` does, for a handle, which owns its pass.
+    #[inline(always)]
+    pub fn part_off<T, A: Allocator>(&mut self, of: &Guarded<T, A>) -> GuardedPass
+        requires own { IsGuardedPass of.now self.old }
+        ensures own { IsGuardedPass of.now self.new × IsGuardedPass of.now result }
+        ensures views { (view self.new ≡ left_view (view self.old)) × (view result ≡ right_view (core_played (λ _. no_holds)) (view self.old)) }
+    {
+        let mut seat = self.rise::<T>();
+        let half = of.table.shared.split_seat::<Cut>(&mut seat);
+        *self = GuardedPass::seated(seat);
+        GuardedPass::seated(half)
+    }
+
+    /// This pass and another of the same value, as one: what `join` does.
+    #[inline(always)]
+    pub fn absorb<T, A: Allocator>(&mut self, other: GuardedPass, of: &Guarded<T, A>)
+        requires own { IsGuardedPass of.now self.old × IsGuardedPass of.now other }
+        ensures own { IsGuardedPass of.now self.new }
+        ensures views { view self.new ≡ joined_view both_held (view self.old) (view other) }
+    {
+        let mut other = other;
+        let mut seat = self.rise::<T>();
+        let rest = other.rise::<T>();
+        of.table.shared.join_seat::<Cut>(&mut seat, rest);
+        *self = GuardedPass::seated(seat);
+    }
+
     /// Takes the seat out of the pass, which is blank until it sits again.
     #[inline(always)]
     pub(crate) fn rise<T>(&mut self) -> Seat<Option<T>, View<PlayedMutex>>

@@ -3,6 +3,9 @@
 
 ghost use Rattle.running_guarded.specs.GuardedShown.{IsGuardedPass};
 
+mod locked;
+
+pub use crate::locked::Locked;
 use running_closures::Sleepers;
 use running_guarded::{Guarded, GuardedPass};
 use running_passes::WaitResult;

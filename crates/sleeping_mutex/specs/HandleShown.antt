@@ -1,6 +1,6 @@
 -- What contracts see of a handle: the mutex that it is of, and what a call changes in its pass.
-use Rattle.std.specs.Prelude.{◌≡◌, Some, None}
-use Rattle.std.specs.Borrow.{Bor}
+use Rattle.std.specs.Prelude.{◌≡◌, Bool, Some, None}
+use Rattle.std.specs.Borrow.{Bor, GName}
 use Rattle.std.specs.Fn.{Once, FnOnceReturns}
 use Rattle.model_events.specs.declared.event.Call.TheVariants as calls
 use Rattle.model_events.specs.declared.event.Answer.TheVariants as answers
@@ -13,6 +13,7 @@ use Rattle.running_passes.specs.Passes.{part_of}
 use Rattle.running_mutex.specs.declared.Mutex.{Mutex}
 use Rattle.sleeping_mutex.specs.declared.SleepingMutex.{SleepingMutex}
 use Rattle.sleeping_mutex.specs.declared.MutexHandle.{MutexHandle}
+use Rattle.sleeping_mutex.specs.declared.locked.Locked.{Locked}
 
 -- by what the closure promises of its calls, it gave this at some hold that it was shown
 pub record Acts {F X : Type 0} (g : Once F (Bor MutexHold × Unit {0}) X) (act : F) (given : X) : Type 0 where
@@ -34,6 +35,19 @@ pub record HasLockedAtOnce (p q : MutexPass) : Type 0 where
   pub came : HasPlayed calls.TryLock answers.Success (Some kinds.Write) p within
   pub unlocked : HasUnlocked within q
   pub went : HasPlayedUnlock within q
+
+-- The same in two: it was granted, and has not let go yet; and it has let go.
+pub record HasComeIn (p q : MutexPass) : Type 0 where
+  pub entered : HasEntered p q
+  pub came : HasPlayed calls.Lock answers.Success (Some kinds.Write) p q
+
+pub record HasComeInAtOnce (p q : MutexPass) : Type 0 where
+  pub locked : HasLocked p q
+  pub came : HasPlayed calls.TryLock answers.Success (Some kinds.Write) p q
+
+pub record HasLetGo (p q : MutexPass) : Type 0 where
+  pub unlocked : HasUnlocked p q
+  pub went : HasPlayedUnlock p q
 
 -- the call was refused in 10001 tries of its own, and in one more at least once it had slept, or had looked at the clock
 pub record HasGivenUp (p q : MutexPass) : Type 0 where
@@ -63,6 +77,17 @@ module _ {A : Type 0} where
   -- which part of all passes that is
   abbrev pub part_with : MutexHandle A → Part
   part_with h = part_of (pass_of h)
+
+  -- whether its guard is out
+  abbrev pub is_held : MutexHandle A → Bool
+  is_held h = h.held
+
+  -- the handle of a guard, and which borrow of it that is
+  abbrev pub handle_of : Locked A → MutexHandle A
+  handle_of guard = guard.handle.now
+
+  abbrev pub borrow_of : Locked A → GName
+  borrow_of guard = guard.handle.ghost_name
 
   -- still a handle of the same mutex, and its pass has changed so
   pub record PassHas (Changed : MutexPass → MutexPass → Type 0) (before after : MutexHandle A) : Type 0 where

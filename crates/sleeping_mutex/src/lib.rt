@@ -1,8 +1,14 @@
 //! A mutex at which callers sleep, and handles of it: a handle owns its pass, so its calls ask for nothing.
 #![tactic(auto)]
 
-ghost use Rattle.running_mutex.specs.MutexShown.{IsMutexPass};
+ghost use Rattle.std.specs.Prelude.{◌≡◌, true};
+ghost use Rattle.running_mutex.specs.MutexParties.{HasMutex};
+ghost use Rattle.running_mutex.specs.MutexShown.{IsMutexPass, holds_of};
+ghost use Rattle.running_model.specs.Passes.{parties_of};
 
+mod locked;
+
+pub use crate::locked::Locked;
 use running_closures::Sleepers;
 use running_mutex::{Mutex, MutexHold, MutexPass};
 use running_passes::WaitResult;
@@ -22,11 +28,15 @@ pub struct SleepingMutex<A: Allocator = Global> {
 pub struct MutexHandle<'m, A: Allocator = Global> {
     of: &'m SleepingMutex<A>,
     pass: MutexPass,
+    // While its guard is out.
+    held: bool,
     ghost own: { IsMutexPass of.now.mutex pass },
+    ghost on: { held ≡ true → holds_of pass ≡ 1 },
+    ghost has: { held ≡ true → HasMutex (parties_of pass) },
 }
 
 impl<A: Allocator> SleepingMutex<A> {
-    ghost use Rattle.std.specs.Prelude.{◌≡◌, None, IfOk, IfSome, IfNone, IsSome};
+    ghost use Rattle.std.specs.Prelude.{None, IfOk, IfSome, IfNone, IsSome};
     ghost use Rattle.running_passes.specs.Passes.{view};
     ghost use Rattle.running_passes.specs.Views.{first_view};
     ghost use Rattle.running_model.specs.Slots.{no_parties};
@@ -59,7 +69,12 @@ impl<A: Allocator> SleepingMutex<A> {
         ensures object { object_of result ≡ self.now }
         ensures pass { pass_of result ≡ pass }
     {
-        MutexHandle { of: self, pass }
+        let held = false;
+        MutexHandle {
+            of: self,
+            pass,
+            held,
+        }
     }
 
     #[inline(always)]
@@ -172,7 +187,11 @@ impl<'m, A: Allocator> MutexHandle<'m, A> {
         ensures gave_up { IfNone result (PassHas HasGivenUp self.old self.new) }
         ensures waits { deadline ≡ None → IsSome result }
     {
-        self.of.act_until(rt, &mut self.pass, deadline, act)
+        let given = self.of.act_until(rt, &mut self.pass, deadline, act);
+        if given.is_none() {
+            self.held = false;
+        }
+        given
     }
 
     /// The same without a wait; `None` where the mutex was seen locked, and then `act` was not called.
@@ -183,7 +202,11 @@ impl<'m, A: Allocator> MutexHandle<'m, A> {
         ensures acted { IfSome result (λ x. Acts F.FnOnce act x) }
         ensures refused { IfNone result (PassHas HasSeenLocked self.old self.new) }
     {
-        self.of.try_act(&mut self.pass, act)
+        let given = self.of.try_act(&mut self.pass, act);
+        if given.is_none() {
+            self.held = false;
+        }
+        given
     }
 
     /// Two handles of the same mutex, each with a part of the pass, for a thread more.
@@ -191,12 +214,11 @@ impl<'m, A: Allocator> MutexHandle<'m, A> {
         ensures object { (object_of result.0 ≡ object_of self.entry) × (object_of result.1 ≡ object_of self.entry) }
         ensures halves { (part_with result.0 ≡ half (part_with self.entry)) × (part_with result.1 ≡ half (part_with self.entry)) }
     {
-        let MutexHandle { of, pass } = self;
+        let MutexHandle { of, pass, .. } = self;
         let Ok((pass, other)) = pass.split(&of.mutex) else {
             unreachable!()
         };
-        let other = MutexHandle { of, pass: other };
-        (MutexHandle { of, pass }, other)
+        (of.handle(pass), of.handle(other))
     }
 
     /// So many handles of the same object, for as many threads; one, where none are asked for.
@@ -225,12 +247,12 @@ impl<'m, A: Allocator> MutexHandle<'m, A> {
         ensures weights { AddUp (part_with result) (part_with self.entry) (part_with other.entry) }
         ensures again { (p : Part) → IsSamePart (part_with self.entry) (half p) → IsSamePart (part_with other.entry) (half p) → IsAgain p (part_with result) }
     {
-        let MutexHandle { of, pass } = self;
-        let MutexHandle { of: _, pass: other } = other;
+        let MutexHandle { of, pass, .. } = self;
+        let MutexHandle { pass: other, .. } = other;
         let Ok(pass) = MutexPass::join(pass, other, &of.mutex) else {
             unreachable!()
         };
-        MutexHandle { of, pass }
+        of.handle(pass)
     }
 
     /// The pass alone, for who counts.
@@ -239,7 +261,7 @@ impl<'m, A: Allocator> MutexHandle<'m, A> {
         ensures own { IsSleepingPass (object_of self.entry) result }
         ensures same { result ≡ pass_of self.entry }
     {
-        let MutexHandle { of: _, pass } = self;
+        let MutexHandle { pass, .. } = self;
         pass
     }
 }

@@ -19,7 +19,12 @@ fn main(rt: HostRuntime) -> ExitCode {
     };
     let mut progress = Progress::new(&rt, shows);
     match run(rt.alloc(), &mut rt.stdin(), &mut rt.stdout(), &mut progress) {
-        Ok(verdict) => ExitCode::from(verdict.status()),
+        Ok(answered) => {
+            if let Some(line) = answered.lost {
+                let _ = eprintln!(rt; "lost at line {line}");
+            }
+            ExitCode::from(answered.verdict.status())
+        }
         Err(unanswered) => {
             let fault = unanswered.fault;
             let _ = eprintln!(rt; "{fault}");

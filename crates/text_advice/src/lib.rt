@@ -4,14 +4,19 @@
 //! says in one sentence what would be right there.
 #![tactic(auto)]
 
+mod condition;
 mod failed;
+mod items;
+mod near;
 mod objects;
 pub mod question;
 mod repeat;
 mod sentence;
+mod variables;
+mod words;
 
 use crate::repeat::repeat;
-use crate::sentence::say;
+use crate::sentence::advise;
 pub use failed::Failed;
 use model_events::event::Object;
 use std::alloc::{AllocError, Global};
@@ -49,7 +54,7 @@ pub fn explain(alloc: Global, text: &[u8], found: FaultyLine) -> Result<Vec<u8>,
     let mut out = Vec::new(alloc);
     repeat(&mut out, line)?;
     out.extend_from_slice(b"\n")?;
-    say(&mut out, object_of(text), line, found)?;
+    advise(&mut out, object_of(text), line, found)?;
     out.extend_from_slice(b"\n")?;
     Ok(out)
 }

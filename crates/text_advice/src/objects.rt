@@ -1,54 +1,40 @@
 //! What is said of each object, where a text or a question has a fault.
 
 use model_events::event::Object;
+use text_lines::lexer::is;
 
-/// With what a text begins.
-pub fn text_begins() -> &'static [u8] {
-    b"a text begins with its object: mutex, spin, semaphore, barrier, rwreader, rwwriter, condvar, once, lazy, atomic_u64, atomic_u128, atomic_i64, atomic_i128"
+/// The objects of which a question may be.
+pub fn questions_objects() -> &'static [u8] {
+    b"mutex, spin, semaphore, barrier, rwreader, rwwriter, condvar, once, lazy, atomic_u64"
 }
 
-/// With what a question begins.
-pub fn question_begins() -> &'static [u8] {
-    b"a question begins with its object: mutex, spin, semaphore, barrier, rwreader, rwwriter, condvar, once, lazy, and of the atomics atomic_u64"
+/// The objects of which a text may be.
+pub fn texts_objects() -> &'static [u8] {
+    b"mutex, spin, semaphore, barrier, rwreader, rwwriter, condvar, once, lazy, atomic_u64, atomic_u128, atomic_i64, atomic_i128"
 }
 
-/// That it has no call of a name, up to the name.
-pub fn has_no_call(object: Object<()>) -> &'static [u8] {
+/// What it is called.
+pub fn noun(object: Object<()>) -> &'static [u8] {
     match object {
-        Object::Mutex => b"a mutex has no call `",
-        Object::Spin => b"a spin lock has no call `",
-        Object::Semaphore(_) => b"a semaphore has no call `",
-        Object::Barrier(_) => b"a barrier has no call `",
-        Object::ReaderLock | Object::WriterLock => b"a reader-writer lock has no call `",
-        Object::Condvar => b"a condition variable has no call `",
-        Object::Once => b"a once has no call `",
-        Object::Lazy(_) => b"a lazy value has no call `",
-        Object::Atomic(_) => b"an atomic has no call `",
+        Object::Mutex => b"a mutex",
+        Object::Spin => b"a spin lock",
+        Object::Semaphore(_) => b"a semaphore",
+        Object::Barrier(_) => b"a barrier",
+        Object::ReaderLock | Object::WriterLock => b"a reader-writer lock",
+        Object::Condvar => b"a condition variable",
+        Object::Once => b"a once",
+        Object::Lazy(_) => b"a lazy value",
+        Object::Atomic(_) => b"an atomic",
     }
 }
 
-/// What its first line has, up to a line that opens it.
-pub fn first_line(object: Object<()>) -> &'static [u8] {
+/// What its first line has behind the number of parties.
+pub fn first_value(object: Object<()>) -> &'static [u8] {
     match object {
-        Object::Mutex => b"a mutex's first line has a number of parties, and no value: ",
-        Object::Spin => b"a spin lock's first line has a number of parties, and no value: ",
-        Object::Semaphore(_) => {
-            b"a semaphore's first line has a number of parties, and a value: "
-        }
-        Object::Barrier(_) => {
-            b"a barrier's first line has a number of parties, and how many open a round: "
-        }
-        Object::ReaderLock | Object::WriterLock => {
-            b"a reader-writer lock's first line has a number of parties, and no value: "
-        }
-        Object::Condvar => {
-            b"a condition variable's first line has a number of parties, and no value: "
-        }
-        Object::Once => b"a once's first line has a number of parties, and no value: ",
-        Object::Lazy(_) => {
-            b"a lazy value's first line has a number of parties, and the value that its closure gives: "
-        }
-        Object::Atomic(_) => { b"an atomic's first line has a number of parties, and a value: " }
+        Object::Semaphore(_) | Object::Atomic(_) => b"a value",
+        Object::Barrier(_) => b"how many open a round",
+        Object::Lazy(_) => b"the value that its closure gives",
+        _ => b"no value",
     }
 }
 
@@ -61,24 +47,23 @@ pub fn first_words(object: Object<()>) -> &'static [u8] {
     }
 }
 
-/// Which numbers its first line may have.
-pub fn first_numbers(object: Object<()>) -> &'static [u8] {
+/// Which value its first line may have behind the parties, where it is called so.
+pub fn first_numbers(object: Object<()>, name: &[u8]) -> &'static [u8] {
     match object {
-        Object::Barrier(_) => {
-            b"there are 1 to 64 parties, and 0 to 4294967295 arrivals open a round, in decimal digits"
+        Object::Barrier(_) => b", and 0 to 4294967295 arrivals open a round",
+        Object::Atomic(_) if is(name, b"atomic_i64") => {
+            b", and the value is -9223372036854775808 to 9223372036854775807"
         }
-        Object::Semaphore(_) | Object::Lazy(_) => {
-            b"there are 1 to 64 parties, and the value is 0 to 18446744073709551615, in decimal digits"
+        Object::Atomic(_) if is(name, b"atomic_u128") => {
+            b", and the value is 0 to 340282366920938463463374607431768211455"
         }
-        Object::Atomic(_) => {
-            b"there are 1 to 64 parties, and the value is one of the atomic's type, in decimal digits"
+        Object::Atomic(_) if is(name, b"atomic_i128") => {
+            b", and the value is -170141183460469231731687303715884105728 to 170141183460469231731687303715884105727"
         }
-        Object::Mutex
-        | Object::Spin
-        | Object::ReaderLock
-        | Object::WriterLock
-        | Object::Condvar
-        | Object::Once => b"there are 1 to 64 parties, in decimal digits",
+        Object::Semaphore(_) | Object::Lazy(_) | Object::Atomic(_) => {
+            b", and the value is 0 to 18446744073709551615"
+        }
+        _ => b"",
     }
 }
 
@@ -111,9 +96,9 @@ pub fn numbers_within(object: Object<()>) -> &'static [u8] {
 /// The verbs that move a call of it on.
 pub fn verbs_of(object: Object<()>) -> &'static [u8] {
     match object {
-        Object::Atomic(_) => b"; a call under way: go, run, some, none",
-        Object::Spin | Object::Once | Object::Lazy(_) => b"; a call under way: go, run",
-        _ => b"; a call under way: go, run, wait, abort",
+        Object::Atomic(_) => b"go, run, some, none",
+        Object::Spin | Object::Once | Object::Lazy(_) => b"go, run",
+        _ => b"go, run, wait, abort",
     }
 }
 
@@ -121,17 +106,17 @@ pub fn verbs_of(object: Object<()>) -> &'static [u8] {
 pub fn answers(object: Object<()>) -> &'static [u8] {
     match object {
         Object::Atomic(_) => {
-            b"the call stands at its closure, which answers `some` and a value, or `none`"
+            b"the call waits at its closure, which answers `some` and a value, or `none`"
         }
-        _ => b"the call stands at its closure, which answers `wait` or `abort`",
+        _ => b"the call waits at its closure, which answers `wait` or `abort`",
     }
 }
 
 /// What may be said of the closures of an object's calls.
 pub fn closures_of(object: Object<()>) -> &'static [u8] {
     match object {
-        Object::Atomic(_) => b"may choose some 7, may choose none",
-        _ => b"may abort, aborts, sleeps",
+        Object::Atomic(_) => b"may choose some 7, may choose none, may skip, serves",
+        _ => b"may abort, aborts, sleeps, may skip, serves",
     }
 }
 
@@ -150,34 +135,25 @@ pub fn answers_of(object: Object<()>) -> &'static [u8] {
     }
 }
 
-/// Which numbers follow the object's calls.
-pub fn numbers_of_calls(object: Object<()>) -> &'static [u8] {
-    match object {
-        Object::Atomic(_) =>
-            b"two numbers follow `compare_exchange`, and one each call but `load` and `fetch_update`",
-        _ => b"a number follows `post` alone",
-    }
-}
-
 /// The terms of a condition.
 pub fn terms_of(object: Object<()>) -> &'static [u8] {
     match object {
         Object::Mutex => {
-            b"1 success, 1 interrupted, 1 done, 1 aborted, 1 waits, 1 holds write, word 0, stuck"
+            b"1 success, 1 interrupted, 1 done, 1 aborted, 1 waits, 1 holds write, word 0, 1 sleeps for ever"
         }
         Object::Spin => b"1 success, 1 interrupted, 1 done, 1 holds write, word 0",
         Object::Semaphore(_) => {
-            b"1 success, 1 interrupted, 1 done, 1 7, 1 aborted, 1 waits, word 0, stuck"
+            b"1 success, 1 interrupted, 1 done, 1 7, 1 aborted, 1 waits, word 0, 1 sleeps for ever"
         }
-        Object::Barrier(_) => b"1 ok, 1 full, 1 aborted, 1 waits, word 0, stuck",
+        Object::Barrier(_) => b"1 ok, 1 full, 1 aborted, 1 waits, word 0, 1 sleeps for ever",
         Object::ReaderLock => {
-            b"1 success, 1 interrupted, 1 done, 1 aborted, 1 waits, 1 holds read, 1 holds write, word 0, stuck"
+            b"1 success, 1 interrupted, 1 done, 1 aborted, 1 waits, 1 holds read, 1 holds write, word 0, 1 sleeps for ever"
         }
         Object::WriterLock => {
-            b"1 success, 1 interrupted, 1 done, 1 aborted, 1 waits, 1 holds read, 1 holds write, word 0, counter 0, stuck"
+            b"1 success, 1 interrupted, 1 done, 1 aborted, 1 waits, 1 holds read, 1 holds write, word 0, counter 0, 1 sleeps for ever"
         }
         Object::Condvar => {
-            b"1 success, 1 interrupted, 1 interrupted held, 1 done, 1 aborted, 1 waits, 1 holds write, word 0, waiters 0, value 0, stuck"
+            b"1 success, 1 interrupted, 1 interrupted held, 1 done, 1 aborted, 1 waits, 1 holds write, word 0, waiters 0, value 0, 1 sleeps for ever"
         }
         Object::Once => b"1 done, 1 true, 1 false, word 0",
         Object::Lazy(_) => b"1 7, word 0",

@@ -1,16 +1,20 @@
 //! The sentence that says what would be right in the place of a line with a fault.
 
+use crate::near::{nearest, nearest_call};
 use crate::objects::{
-    answers, first_line, first_numbers, first_words, has_no_call, numbers_after, numbers_within,
-    text_begins, verbs_of,
+    answers, first_numbers, first_value, first_words, noun, numbers_after, numbers_within,
+    texts_objects, verbs_of,
 };
-use crate::repeat::repeat;
+use crate::words::{
+    Spot, before_word, first_spot, first_word, front_of, has_comment, has_mark, is_no_number, mean,
+    of_comment, say, show,
+};
 use model_events::event::{Call, Object};
 use std::alloc::AllocError;
 use text_lines::call::{name_of, named};
 use text_lines::command::is_known;
 use text_lines::fault::{FaultyLine, LineFault};
-use text_lines::lexer::{is, next_word, number_within};
+use text_lines::lexer::{is, next_word};
 use text_lines::objects::calls_of;
 
 /// Adds the names of calls, with commas between.
@@ -33,71 +37,57 @@ pub fn list_calls(out: &mut Vec<u8>, words: &[u8], object: Object<()>) -> Result
 /// Adds words, and then all that a line may ask of the object: its calls, and the verbs of a call under way.
 pub fn list_asked(out: &mut Vec<u8>, words: &[u8], object: Object<()>) -> Result<(), AllocError> {
     list_calls(out, words, object)?;
+    out.extend_from_slice(b"; a call under way: ")?;
     out.extend_from_slice(verbs_of(object))
 }
 
-/// Adds that the object has no call of this name, and which it has.
-fn refuse_name(out: &mut Vec<u8>, object: Object<()>, name: &[u8]) -> Result<(), AllocError> {
-    out.extend_from_slice(has_no_call(object))?;
-    repeat(out, name)?;
-    list_asked(out, b"`: ", object)
-}
-
-/// Whether a word begins as a comment does in many languages.
-pub fn is_comment(word: &[u8]) -> bool {
-    match word.first() {
-        Some(byte) => *byte == b'#' || *byte == b'/' || *byte == b';' || *byte == b'%',
-        None => false,
-    }
-}
-
-/// Whether the first line begins with a byte-order mark.
-pub fn is_marked(line: &[u8]) -> bool {
-    line.len() >= 3 && line[0] == 0xef && line[1] == 0xbb && line[2] == 0xbf
+/// Adds that the object has no such call.
+pub fn no_call(out: &mut Vec<u8>, at: Spot<'_>) -> Result<(), AllocError> {
+    out.extend_from_slice(noun(at.object))?;
+    say(out, b" has no call `", at.word, b"`")
 }
 
 /// Of a line with this verb, whose words are no command of the object.
-fn of_verb(out: &mut Vec<u8>, object: Object<()>, name: &[u8]) -> Result<(), AllocError> {
-    if is_known(object, name) {
-        out.extend_from_slice(numbers_after(object))
+fn of_verb(out: &mut Vec<u8>, at: Spot<'_>) -> Result<(), AllocError> {
+    let verb = nearest(verbs_of(at.object), at.word);
+    let call = nearest_call(at.object, at.word);
+    if has_mark(at.word, b",;") {
+        out.extend_from_slice(b"a line asks one thing, and a line of its own the next")?;
+        show(out, before_word(at), front_of(at.word, b",;"), b"")
+    } else if is_known(at.object, at.word) {
+        out.extend_from_slice(numbers_after(at.object))
+    } else if !call.is_empty() {
+        mean(out, at, call)
+    } else if !verb.is_empty() {
+        mean(out, at, verb)
     } else {
-        refuse_name(out, object, name)
-    }
-}
-
-/// Whether a word is no number at all.
-pub fn is_no_number(word: &[u8]) -> bool {
-    number_within(0, u64::MAX, word).is_err()
-}
-
-/// Of a line with this first word, whose words are no command of the object.
-fn of_words(
-    out: &mut Vec<u8>,
-    object: Object<()>,
-    party: &[u8],
-    rest: &[u8],
-) -> Result<(), AllocError> {
-    if is_comment(party) {
-        out.extend_from_slice(b"a text has no comments")
-    } else if is_no_number(party) {
-        list_asked(
-            out,
-            b"a line begins with the number of a party, and then says what it does: ",
-            object,
-        )
-    } else {
-        match next_word(rest) {
-            Some((name, _)) => of_verb(out, object, name),
-            None => list_asked(out, b"a line has a party and what it does: ", object),
-        }
+        no_call(out, at)?;
+        list_asked(out, b": ", at.object)
     }
 }
 
 /// Of a line whose words are no command of the object.
-fn of_bad_line(out: &mut Vec<u8>, object: Object<()>, line: &[u8]) -> Result<(), AllocError> {
-    match next_word(line) {
-        Some((party, rest)) => of_words(out, object, party, rest),
-        None => list_asked(out, b"a line has a party and what it does: ", object),
+fn of_bad_line(out: &mut Vec<u8>, at: Spot<'_>) -> Result<(), AllocError> {
+    if has_comment(at.line) {
+        return of_comment(out, at.line);
+    }
+    match next_word(at.behind) {
+        Some((word, behind)) if !is_no_number(at.word) => {
+            of_verb(
+                out,
+                Spot {
+                    left: at.behind,
+                    word,
+                    behind,
+                    ..at
+                },
+            )
+        }
+        _ => list_asked(
+            out,
+            b"a line begins with the number of a party, and then says what it does: ",
+            at.object,
+        ),
     }
 }
 
@@ -157,24 +147,28 @@ fn of_early_answer(out: &mut Vec<u8>, object: Object<()>, line: &[u8]) -> Result
     }
 }
 
-/// Adds a line that opens the object of this name.
-fn add_opening(out: &mut Vec<u8>, object: Object<()>, name: &[u8]) -> Result<(), AllocError> {
-    out.extend_from_slice(name)?;
-    out.extend_from_slice(first_words(object))
-}
-
-/// Of a first line that names this object, by this name.
+/// Of a first line that names this object.
 pub fn of_first_line(
     out: &mut Vec<u8>,
     object: Object<()>,
-    name: &[u8],
+    line: &[u8],
     fault: LineFault,
 ) -> Result<(), AllocError> {
+    let name = first_word(line);
+    if has_comment(line) {
+        return of_comment(out, line);
+    }
     match fault {
-        LineFault::BadNumber => out.extend_from_slice(first_numbers(object)),
+        LineFault::BadNumber => {
+            out.extend_from_slice(b"there are 1 to 64 parties")?;
+            out.extend_from_slice(first_numbers(object, name))?;
+            out.extend_from_slice(b", in decimal digits")
+        }
         _ => {
-            out.extend_from_slice(first_line(object))?;
-            add_opening(out, object, name)
+            out.extend_from_slice(noun(object))?;
+            out.extend_from_slice(b"'s first line has a number of parties, and ")?;
+            out.extend_from_slice(first_value(object))?;
+            say(out, b": ", name, first_words(object))
         }
     }
 }
@@ -187,7 +181,7 @@ fn of_line(
     fault: LineFault,
 ) -> Result<(), AllocError> {
     match fault {
-        LineFault::NoObject | LineFault::BadLine => of_bad_line(out, object, line),
+        LineFault::NoObject | LineFault::BadLine => of_bad_line(out, first_spot(object, b"", line)),
         LineFault::BadNumber => of_bad_number(out, object, line),
         LineFault::NoParty => out.extend_from_slice(
             b"the parties are numbered from 1, and the first line says how many there are",
@@ -210,40 +204,41 @@ fn of_line(
     }
 }
 
-/// The first word of a line. Empty where it has none.
-pub fn first_word(line: &[u8]) -> &[u8] {
-    match next_word(line) {
-        Some((word, _)) => word,
-        None => &[],
-    }
-}
-
-/// Of a text that names no object.
-fn of_no_object(out: &mut Vec<u8>, line: &[u8]) -> Result<(), AllocError> {
-    if is_marked(line) {
+/// Of the first line of a text or a question that names no object which it may be about.
+pub fn no_object(
+    out: &mut Vec<u8>,
+    line: &[u8],
+    what: &[u8],
+    objects: &[u8],
+) -> Result<(), AllocError> {
+    let at = first_spot(Object::Mutex, b"", line);
+    let near = nearest(objects, at.word);
+    if line.starts_with(b"\xef\xbb\xbf") {
         out.extend_from_slice(b"the first line has a byte-order mark")
-    } else if is_comment(first_word(line)) {
-        out.extend_from_slice(b"a text has no comments, and begins with its object")
+    } else if has_comment(line) {
+        say(
+            out,
+            what,
+            b" has no comments, and begins with its object",
+            b"",
+        )
+    } else if !near.is_empty() {
+        mean(out, at, near)
     } else {
-        out.extend_from_slice(text_begins())
+        say(out, what, b" begins with its object: ", objects)
     }
 }
 
 /// Adds what would be right in the place of a line with this fault, of a text of this object.
-pub fn say(
+pub fn advise(
     out: &mut Vec<u8>,
     object: Option<Object<()>>,
     line: &[u8],
     found: FaultyLine,
 ) -> Result<(), AllocError> {
     match object {
-        None => of_no_object(out, line),
-        Some(object) if found.line == 1 => of_first_line(
-            out,
-            object,
-            first_word(line),
-            found.fault,
-        ),
+        None => no_object(out, line, b"a text", texts_objects()),
+        Some(object) if found.line == 1 => of_first_line(out, object, line, found.fault),
         Some(object) => of_line(out, object, line, found.fault),
     }
 }

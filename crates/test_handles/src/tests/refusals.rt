@@ -1,7 +1,8 @@
 //! Each growth of the objects with handles, refused in turn, and that of a list of handles. A lock is two blocks of 16 bytes, a guarded number
-//! three.
+//! three, with a monitor round it too.
 use linked_list_allocator::LocalHeap;
 use sleeping_guarded::SleepingGuarded;
+use sleeping_monitor::SleepingMonitor;
 use sleeping_mutex::SleepingMutex;
 use sleeping_rw_value::SleepingRwValue;
 use sleeping_semaphore::SleepingSemaphore;
@@ -9,22 +10,23 @@ use std::alloc::{AllocError, Global};
 use std::test::Fail;
 
 /// Which objects a heap of this size has room for, one at a time, and how much of it is used afterwards.
-fn made_in(alloc: Global, size: usize) -> Result<([bool; 4], usize), AllocError> {
+fn made_in(alloc: Global, size: usize) -> Result<([bool; 5], usize), AllocError> {
     let heap = LocalHeap::new(alloc, size)?;
     let mutex = SleepingMutex::new(&heap).is_ok();
     let semaphore = SleepingSemaphore::new(&heap, 5).is_ok();
     let rw_value = SleepingRwValue::new(&heap, 7u64).is_ok();
     let guarded = SleepingGuarded::new(&heap, 7u64).is_ok();
-    Ok(([mutex, semaphore, rw_value, guarded], heap.used()))
+    let monitor = SleepingMonitor::new(&heap, 7u64).is_ok();
+    Ok(([mutex, semaphore, rw_value, guarded, monitor], heap.used()))
 }
 
 #[test]
 fn objects_that_find_no_memory(rt: HostRuntime) -> Result<(), Fail> {
     for (size, made) in [
-        (0, [false; 4]),
-        (16, [false; 4]),
-        (32, [true, true, true, false]),
-        (48, [true; 4]),
+        (0, [false; 5]),
+        (16, [false; 5]),
+        (32, [true, true, true, false, false]),
+        (48, [true; 5]),
     ] {
         assert_eq!(rt; made_in(rt.alloc(), size)?, (made, 0));
     }

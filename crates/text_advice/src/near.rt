@@ -1,0 +1,90 @@
+//! Words that are nearly others.
+
+use crate::words::bare;
+use model_events::event::{Call, Object};
+use text_lines::call::name_of;
+use text_lines::lexer::{is, next_word};
+use text_lines::objects::calls_of;
+
+/// How many bytes of two words are compared: as long as any name is.
+const LONGEST: usize = 24;
+
+fn small(byte: u8) -> u8 {
+    if b'A' <= byte && byte <= b'Z' {
+        byte + 32
+    } else {
+        byte
+    }
+}
+
+/// Both without the bytes that they begin with alike, whatever their case.
+fn without_fronts<'a>(word: &'a [u8], name: &'a [u8]) -> (&'a [u8], &'a [u8]) {
+    let (mut word, mut name) = (word, name);
+    for _ in 0..LONGEST {
+        match (word.split_first(), name.split_first()) {
+            (Some((one, rest)), Some((other, others))) if small(*one) == small(*other) => {
+                word = rest;
+                name = others;
+            }
+            _ => return (word, name),
+        }
+    }
+    (word, name)
+}
+
+/// Both without the bytes that they end with alike.
+fn without_ends<'a>(word: &'a [u8], name: &'a [u8]) -> (&'a [u8], &'a [u8]) {
+    let (mut word, mut name) = (word, name);
+    for _ in 0..LONGEST {
+        match (word.split_last(), name.split_last()) {
+            (Some((one, rest)), Some((other, others))) if small(*one) == small(*other) => {
+                word = rest;
+                name = others;
+            }
+            _ => return (word, name),
+        }
+    }
+    (word, name)
+}
+
+/// Whether two bytes have changed places; or in a longer word one is missing, one too many or another.
+fn is_slip(word: &[u8], name: &[u8]) -> bool {
+    let is_long = word.len().max(name.len()) > 3;
+    let (word, name) = without_fronts(word, name);
+    let (word, name) = without_ends(word, name);
+    match (word, name) {
+        ([one, two], [other, another]) => *one == *another && *two == *other,
+        _ => is_long && word.len() <= 1 && name.len() <= 1,
+    }
+}
+
+/// Whether a word is nearly this name, or its beginning.
+pub fn is_near(word: &[u8], name: &[u8]) -> bool {
+    word.len().min(name.len()) >= 3 && (is_slip(word, name) || name.starts_with(word))
+}
+
+/// The first word of a list that this one nearly is. Empty where there is none.
+pub fn nearest<'a>(list: &'a [u8], word: &[u8]) -> &'a [u8] {
+    let mut rest = list;
+    for _ in 0..list.len() {
+        let Some((name, after)) = next_word(rest) else {
+            break;
+        };
+        rest = after;
+        if is_near(word, bare(name)) {
+            return bare(name);
+        }
+    }
+    &[]
+}
+
+/// The object's call that this word nearly names. Empty where there is none.
+pub fn nearest_call(object: Object<()>, word: &[u8]) -> &'static [u8] {
+    for call in calls_of(&object) {
+        let name = name_of(call).as_bytes();
+        if is_near(word, name) || is(word, b"wait") && is(name, b"start_wait") {
+            return name;
+        }
+    }
+    b""
+}

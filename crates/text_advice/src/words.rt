@@ -1,0 +1,246 @@
+//! A word at which a line goes wrong, and what is said of it.
+
+ghost use Rattle.std.specs.Prelude.{◌≤◌, length};
+
+use crate::repeat::repeat;
+use model_events::event::Object;
+use std::alloc::AllocError;
+use text_lines::lexer::{is, next_word, number_within};
+
+/// A word of a line, of a question about this object.
+#[derive(Clone, Copy)]
+pub struct Spot<'a> {
+    pub object: Object<()>,
+    pub question: &'a [u8],
+    pub line: &'a [u8],
+    /// What is left of the line, from this word on.
+    pub left: &'a [u8],
+    pub word: &'a [u8],
+    /// What is left behind it.
+    pub behind: &'a [u8],
+}
+
+/// What stands in a line before so many bytes of its end.
+fn before(line: &[u8], bytes: usize) -> &[u8] {
+    &line[..line.len().saturating_sub(bytes)]
+}
+
+/// What stands in the line before the word.
+pub fn before_word<'a>(at: Spot<'a>) -> &'a [u8] {
+    before(at.line, at.behind.len().saturating_add(at.word.len()))
+}
+
+/// Adds a sentence about a word of the text.
+pub fn say(out: &mut Vec<u8>, front: &[u8], word: &[u8], end: &[u8]) -> Result<(), AllocError> {
+    out.extend_from_slice(front)?;
+    repeat(out, word)?;
+    out.extend_from_slice(end)
+}
+
+/// Adds how a line should be.
+pub fn show(out: &mut Vec<u8>, front: &[u8], new: &[u8], end: &[u8]) -> Result<(), AllocError> {
+    out.extend_from_slice(b": ")?;
+    repeat(out, front)?;
+    repeat(out, new)?;
+    repeat(out, end)
+}
+
+/// Adds how the line should be, with this in the place of the word.
+pub fn put(out: &mut Vec<u8>, words: &[u8], at: Spot<'_>, new: &[u8]) -> Result<(), AllocError> {
+    out.extend_from_slice(words)?;
+    show(out, before_word(at), new, at.behind)
+}
+
+/// The same, with this before the blanks that are before the word.
+pub fn insert(out: &mut Vec<u8>, words: &[u8], at: Spot<'_>, new: &[u8]) -> Result<(), AllocError> {
+    out.extend_from_slice(words)?;
+    show(out, before(at.line, at.left.len()), new, at.left)
+}
+
+/// The same, with this in the place of the word and of the blanks before it.
+pub fn swap(out: &mut Vec<u8>, words: &[u8], at: Spot<'_>, new: &[u8]) -> Result<(), AllocError> {
+    out.extend_from_slice(words)?;
+    show(out, before(at.line, at.left.len()), new, at.behind)
+}
+
+/// Where a word has the first of these marks, or its end.
+fn mark_at(word: &[u8], marks: &[u8]) -> usize
+    ensures { result ≤ length word.now }
+{
+    word.iter()
+        .position(|byte| marks.contains(byte))
+        .unwrap_or(word.len())
+        .min(word.len())
+}
+
+/// Whether a word has one of these marks.
+pub fn has_mark(word: &[u8], marks: &[u8]) -> bool {
+    mark_at(word, marks) < word.len()
+}
+
+/// What a word has before the first of these marks.
+pub fn front_of<'a>(word: &'a [u8], marks: &[u8]) -> &'a [u8] {
+    &word[..mark_at(word, marks)]
+}
+
+/// How many of these marks a word begins with.
+fn marks_of(word: &[u8], marks: &[u8]) -> usize
+    ensures { result ≤ length word.now }
+{
+    word.iter()
+        .position(|byte| !marks.contains(byte))
+        .unwrap_or(word.len())
+        .min(word.len())
+}
+
+fn between<'a>(front: &[u8], end: &[u8], blank: &'a [u8]) -> &'a [u8] {
+    if front.is_empty() || end.is_empty() {
+        b""
+    } else {
+        blank
+    }
+}
+
+/// Adds how the line should be, with blanks round the first of these marks in the word.
+pub fn widen(
+    out: &mut Vec<u8>,
+    words: &[u8],
+    at: Spot<'_>,
+    marks: &[u8],
+) -> Result<(), AllocError> {
+    out.extend_from_slice(words)?;
+    let from = mark_at(at.word, marks);
+    let (front, rest) = (&at.word[..from], &at.word[from..]);
+    let to = marks_of(rest, marks);
+    let (mark, end) = (&rest[..to], &rest[to..]);
+    show(out, before_word(at), front, b"")?;
+    out.extend_from_slice(between(front, mark, b" "))?;
+    repeat(out, mark)?;
+    out.extend_from_slice(between(mark, end, b" "))?;
+    repeat(out, end)?;
+    repeat(out, at.behind)
+}
+
+/// The same, with this in the place of the mark and a blank behind it.
+pub fn split(
+    out: &mut Vec<u8>,
+    words: &[u8],
+    at: Spot<'_>,
+    marks: &[u8],
+    new: &[u8],
+) -> Result<(), AllocError> {
+    out.extend_from_slice(words)?;
+    let from = mark_at(at.word, marks);
+    let (front, rest) = (&at.word[..from], &at.word[from..]);
+    let end = &rest[marks_of(rest, marks)..];
+    show(out, before_word(at), front, new)?;
+    out.extend_from_slice(between(front, end, b" "))?;
+    repeat(out, end)?;
+    repeat(out, at.behind)
+}
+
+/// Adds that a word stands for this one, and how the line should be.
+pub fn mean(out: &mut Vec<u8>, at: Spot<'_>, near: &[u8]) -> Result<(), AllocError> {
+    say(out, b"there is no `", at.word, b"`, but `")?;
+    repeat(out, near)?;
+    put(out, b"`", at, near)
+}
+
+/// A word without the comma at its end.
+pub fn bare(word: &[u8]) -> &[u8] {
+    word.strip_suffix(b",").unwrap_or(word)
+}
+
+/// The first word of a line. Empty where it has none.
+pub fn first_word(line: &[u8]) -> &[u8] {
+    match next_word(line) {
+        Some((word, _)) => word,
+        None => &[],
+    }
+}
+
+/// Whether these words have this one.
+pub fn has(list: &[u8], word: &[u8]) -> bool {
+    let mut rest = list;
+    for _ in 0..list.len() {
+        let Some((other, after)) = next_word(rest) else {
+            break;
+        };
+        rest = after;
+        if is(bare(other), word) {
+            return true;
+        }
+    }
+    false
+}
+
+/// Whether a word begins a comment in many languages.
+fn is_comment(word: &[u8]) -> bool {
+    word.starts_with(b"#") || word.starts_with(b"//")
+}
+
+/// What a line has from its first comment on. Empty where it has none.
+fn comment_in(line: &[u8]) -> &[u8] {
+    let mut rest = line;
+    for _ in 0..line.len() {
+        let Some((word, after)) = next_word(rest) else {
+            break;
+        };
+        if is_comment(word) {
+            return rest;
+        }
+        rest = after;
+    }
+    &[]
+}
+
+pub fn has_comment(line: &[u8]) -> bool {
+    !comment_in(line).is_empty()
+}
+
+/// Adds that there are no comments, and the line without its first.
+pub fn of_comment(out: &mut Vec<u8>, line: &[u8]) -> Result<(), AllocError> {
+    out.extend_from_slice(b"there are no comments")?;
+    match before(line, comment_in(line).len()) {
+        [] => Ok(()),
+        rest => show(out, rest, b"", b""),
+    }
+}
+
+/// A line, at its first word.
+pub fn first_spot<'a>(object: Object<()>, question: &'a [u8], line: &'a [u8]) -> Spot<'a> {
+    let (word, behind) = next_word(line).unwrap_or((b"", b""));
+    Spot {
+        object,
+        question,
+        line,
+        left: line,
+        word,
+        behind,
+    }
+}
+
+/// Adds what a number is.
+pub fn no_number(out: &mut Vec<u8>, word: &[u8]) -> Result<(), AllocError> {
+    say(
+        out,
+        b"a number is 0 to 18446744073709551615, in decimal digits, and not `",
+        word,
+        b"`",
+    )
+}
+
+/// Whether a word is no number at all.
+pub fn is_no_number(word: &[u8]) -> bool {
+    number_within(0, u64::MAX, word).is_err()
+}
+
+/// Whether a word is no number, and begins as one.
+pub fn is_odd_number(word: &[u8]) -> bool {
+    match word.first() {
+        Some(byte) => {
+            (byte.is_ascii_digit() || *byte == b'-' || *byte == b'+') && is_no_number(word)
+        }
+        None => false,
+    }
+}
