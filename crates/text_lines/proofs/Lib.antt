@@ -2,3 +2,4 @@ pub mod Names
 pub mod LexerLaws
 pub mod FaultLaws
 pub mod CommandLaws
+pub mod HeaderLaws

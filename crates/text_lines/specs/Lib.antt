@@ -6,5 +6,6 @@ pub mod NumeralLaws
 pub mod Objects
 pub mod ValueTypes
 pub mod Header
+pub mod HeaderLaw
 pub mod Call
 pub mod Command

@@ -77,6 +77,13 @@ decimal_reads n within = decimal_by_steps_wide IsReadAs (λ m below. (digit_alon
 number_read : (ds : List ℕ) (n : ℕ) → IsReadAs n ds → number_of ds ≡ Some n
 number_read ds n h1 = grind (arith, nat_tests, eqb-true, eqb-false)
 
+in_its_range : (low high n : ℕ) → low ≤ n → n ≤ high → in_range low high (Some n) ≡ Ok n
+in_its_range low high n h1 h2 = grind (arith, nat_tests, eqb-true, eqb-false)
+
+-- what is printed of a number is read as that number, where it is within the range
+pub number_reads_back : (low high n : ℕ) → low ≤ n → n ≤ high → high < 10 ^ 64 → number_within low high (decimal n) ≡ Ok n
+number_reads_back low high n above below short = ap (in_range low high) (number_read (decimal n) n (decimal_reads n (omega (arith, below, short)))) ∙ in_its_range low high n above below
+
 -- the bits of a value are within its type
 value_below : (wide : Bool) (n : ℕ) → joined wide (n % 2 ^ 64) (high_bits wide n) ≡ n → n < span wide
 value_below wide n h1 = grind (arith, nat_tests, eqb-true, eqb-false)

@@ -13,6 +13,7 @@ pub mod command;
 pub mod fault;
 pub mod header;
 pub mod integer;
+pub mod law;
 pub mod lexer;
 pub mod objects;
 pub mod value_type;

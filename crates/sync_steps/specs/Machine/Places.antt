@@ -1,11 +1,11 @@
 -- Where a machine's parties are: the code's places, as places of the object's table, and how often a step at each spins.
-use Rattle.std.specs.Prelude.{◌≡◌, ℕ, Bool, List, [], ◌∷◌, Option, Some, None, ◌+◌, ◌-◌, ◌^◌, ◌==◌, min, unwrap_or, if◌then◌else◌}
-use Rattle.sync_steps.specs.Names.{WaitAction, Call, Event, Object, Then, Word, HoldKind, After, Intent, Arithmetic, PendingCall, call_of, latest_outcome, stage_of, seen_by, within, is_sight, last_of, Table, Patience}
+use Rattle.std.specs.Prelude.{◌≡◌, ℕ, Bool, true, List, [], ◌∷◌, Option, Some, None, ◌+◌, ◌-◌, ◌^◌, ◌==◌, min, unwrap_or, if◌then◌else◌}
+use Rattle.sync_steps.specs.Names.{WaitAction, Call, Event, Object, Then, Wake, Word, HoldKind, After, Intent, Arithmetic, PendingCall, call_of, latest_outcome, stage_of, seen_by, within, is_sight, last_of, Table, Patience}
 use Rattle.sync_steps.specs.declared.steps.place.Closure.{Closure}
 use Rattle.sync_steps.specs.declared.steps.place.Doing.{Doing}
 use Rattle.sync_steps.specs.declared.steps.place.Party.{Party}
 use Rattle.sync_steps.specs.declared.steps.place.Place.{Place}
-use Rattle.sync_steps.specs.Objects.{place_of, table_of, MutexPlace, mutex_table, SpinPlace, spin_table, SemaphorePlace, semaphore_table, BarrierPlace, barrier_table, RwReaderPlace, rw_reader_table, RwWriterPlace, rw_writer_table, CondvarPlace, condvar_table, OncePlace, once_table, LazyPlace, lazy_table, AtomicPlace, atomic_intent, atomic_after, atomic_chosen, atomic_table, is_free, epoch_of, lets_readers_in_free, lets_readers_in, lets_writer_in, lets_mark}
+use Rattle.sync_steps.specs.Objects.{place_of, table_of, has_call, woken_word, MutexPlace, mutex_table, SpinPlace, spin_table, SemaphorePlace, semaphore_table, BarrierPlace, barrier_table, RwReaderPlace, rw_reader_table, RwWriterPlace, rw_writer_table, CondvarPlace, condvar_table, OncePlace, once_table, LazyPlace, lazy_table, AtomicPlace, atomic_intent, atomic_after, atomic_chosen, atomic_table, is_free, epoch_of, lets_readers_in_free, lets_readers_in, lets_writer_in, lets_mark}
 
 -- the code's place for a place of the object's table
 abbrev pub place_in : {T : Type 0} (o : Object T) → place_of o → Place T
@@ -116,6 +116,10 @@ abbrev pub watched_word : {T : Type 0} → Object T → Place T → Word
 watched_word Object.WriterLock (Place.RwWriter (RwWriterPlace.WriteLook patience)) = Word.Counter
 watched_word Object.Condvar (Place.Condvar (CondvarPlace.Permit place)) = Word.Value
 watched_word o place = Word.State
+
+-- some call of the object wakes who waits at this word
+abbrev pub IsWoken : {T : Type 0} → Object T → Word → Type 0
+IsWoken {T} o word = (call : Call T) × (wake : Wake) × (has_call o call ≡ true) × (woken_word o call wake ≡ word)
 
 -- a call's latest sight of a word told this
 abbrev pub SawLast : {T : Type 0} → Word → List (Event T) → ℕ → Type 0

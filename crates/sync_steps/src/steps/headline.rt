@@ -7,7 +7,8 @@ ghost use Rattle.model_events.specs.declared.hold.HoldKind.{HoldKind};
 ghost use Rattle.model_events.specs.Moves.{begin_fault};
 ghost use Rattle.sync_steps.specs.Objects.{table_of, Headline, has_call};
 ghost use Rattle.sync_steps.specs.Runs.{IsPast};
-ghost use Rattle.sync_steps.specs.Machine.Places.{TellsWatched};
+ghost use Rattle.sync_steps.specs.declared.steps.place.Place.{Place as APlace};
+ghost use Rattle.sync_steps.specs.Machine.Places.{IsWoken, TellsWatched, watched_word};
 
 use model_events::atomic::internal::AtomicInteger;
 
@@ -37,4 +38,11 @@ pub fn each_call_can_begin<T: AtomicInteger>()
 pub fn closures_watch_what_they_are_told<T: AtomicInteger>()
     ensures { (object : AnObject T) (parties : ℕ) (past : List (AnEvent T)) →
         IsPast T.arithmetic object parties past → TellsWatched T.arithmetic object past }
+{}
+
+/// Whatever word a wait closure watches, some call of its object wakes who waits at that word. It says so of the definitions alone, and does
+/// nothing.
+#[tactic(auto, using(crate::proofs::Objects::watched_is_woken))]
+pub fn what_is_watched_is_woken<T: AtomicInteger>()
+    ensures { (object : AnObject T) (place : APlace T) → IsWoken object (watched_word object place) }
 {}
