@@ -16,7 +16,10 @@ mod spins;
 pub mod turn;
 
 pub use fault::PlayFault;
-pub use headline::{at_every_prefix, closures_watch_what_they_are_told, each_call_can_begin, what_is_watched_is_woken};
+pub use headline::{
+    at_every_prefix, closures_watch_what_they_are_told, each_call_can_begin,
+    what_is_watched_is_woken,
+};
 pub use machine::{Machine, Stride};
 pub use model_events::event::{
     Act, Answer, Call, Event, Input, Object, StepFault, Then, Wake, Word,
