@@ -5,6 +5,7 @@ import os
 import re
 
 import edits
+from play_page import address
 
 PAGES = ["README.md", *sorted(glob.glob("docs/**/*.md", recursive=True))]
 TEXTS = {page: open(page, encoding="utf-8").read() for page in PAGES}
@@ -61,6 +62,8 @@ def listed(stem):
     rows = [row for row in TEXTS["docs/TEXT.md"].splitlines() if row.startswith(f"| [{name}](../{stem}.txt)")]
     if len(rows) != 1:
         return f"docs/TEXT.md has {len(rows)} rows of it"
+    if f"[try it](play.html{address(read(f'{stem}.txt'))})" not in rows[0]:
+        return f"docs/TEXT.md has no link to try it: play.html{address(read(f'{stem}.txt'))}"
     for ending in ("out", "err", "advice", "trace"):
         if read(f"{stem}.{ending}") and f"[{ending}](../{stem}.{ending})" not in rows[0]:
             return f"docs/TEXT.md has no link to {stem}.{ending}"
@@ -142,6 +145,8 @@ def leads(page, link):
     file = os.path.normpath(os.path.join(os.path.dirname(page), path)) if path else page
     if not os.path.exists(file):
         return f"it links to {link}, which is not there"
+    if file == "docs/play.html":
+        return None if not anchor or f"#{anchor}" in map(address, map(read, glob.glob("examples/*.txt"))) else f"it links to {link}, and no example has this text"
     if anchor and (file not in TEXTS or anchor not in anchors(file)):
         return f"it links to {link}, and {file} has no such heading"
 
