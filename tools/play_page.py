@@ -1,6 +1,6 @@
 """The page docs/play.html, which plays, traces, draws and explores: tools/play_page.html, the examples, and the programs as WebAssembly.
 
-    tools/play_page.py             writes it; the programs are taken from it where they are of these sources, and else built
+    tools/play_page.py             writes it; the programs are taken from it where they are of these sources, and else proved and built
     tools/play_page.py --same      whether it is what that would write, of these sources
     tools/play_page.py --built     whether the programs, built anew, are those that it has
 
@@ -21,6 +21,7 @@ import sys
 import tempfile
 
 PAGE = "docs/play.html"
+WRITES = "python3 tools/play_page.py writes it"
 EXPORTS = "page_play", "page_trace", "page_draw", "page_explore"
 DATA_LAYOUT = 'target datalayout = "e-m:e-p:64:64-p10:8:8-p20:8:8-i64:64-i128:128-n32:64-S128-ni:1:10:20"'
 
@@ -103,7 +104,7 @@ def built():
         run(clang, *common, "-O2", "-ffreestanding", "-fno-builtin", "-nostdinc", "tools/play_page.c", "-o", f"{room}/runtime.o")
         os.symlink(clang, f"{room}/wasm-ld")
         exports = [f"--export={it}" for it in EXPORTS]
-        options = ["-mwasm64", "--no-entry", "--stack-first", "-z", "stack-size=4194304", "--gc-sections", "--strip-all"]
+        options = ["-mwasm64", "--no-entry", "--stack-first", "-z", "stack-size=4194304", "--max-memory=4294967296", "--gc-sections", "--strip-all"]
         run(f"{room}/wasm-ld", *options, *exports, f"{room}/module.o", f"{room}/runtime.o", "-o", f"{room}/module.wasm")
         with open(f"{room}/module.wasm", "rb") as it:
             return base64.b64encode(gzip.compress(it.read(), 9, mtime=0)).decode()
@@ -127,14 +128,21 @@ def main():
     total = sum_of_sources()
     is_current = packed is not None and found is not None and found[1] == total
     if wanted == ["--same"]:
-        if not is_current or page_of(packed[1], total) != old:
-            sys.exit(f"{PAGE} is of other sources: python3 tools/play_page.py writes it")
+        if not old:
+            sys.exit(f"it is not there: {WRITES}")
+        if not is_current:
+            sys.exit(f"its programs are of other sources than these: {WRITES}")
+        if page_of(packed[1], total) != old:
+            sys.exit(f"its examples or scripts are others than these: {WRITES}")
     elif wanted == ["--built"]:
         if not packed or built() != packed[1]:
-            sys.exit(f"{PAGE} has other programs than are built of these sources")
+            sys.exit(f"it has other programs than are built of these sources: {WRITES}")
     elif wanted:
         sys.exit(__doc__)
     else:
+        if not is_current:
+            # Else the library would be proved where nothing is kept.
+            run(sys.executable, "tools/prove.py", "proofs=sync_page")
         page = page_of(packed[1] if is_current else built(), total)
         with open(PAGE, "w", encoding="utf-8") as it:
             it.write(page)

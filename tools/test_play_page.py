@@ -1,6 +1,6 @@
 """Drives docs/play.html in Chromium.
 
-    tools/test_play_page.py stored      each text and question of examples/ gives there what is stored of it
+    tools/test_play_page.py stored      each text and question of examples/, and of the tables of texts/, gives there what is stored of it
     tools/test_play_page.py random      500 texts and questions, made at random, give what the built programs write
     tools/test_play_page.py clicks      buttons, keys, links, the address, faults, want of memory and long questions, at three widths
 
@@ -16,12 +16,15 @@ import sys
 from broken_texts import broken
 from browser import Browser
 from brute import question_at_random
-from played import played
+from played import cases_in, played, wanted_of, written
 
 PAGE = f"file://{os.path.abspath('docs/play.html')}"
-# A worker of the page's own, beside the one that it has.
-TESTER = """const tester = new Worker(source); tester.postMessage({ packed });
-const tried = (job, text) => new Promise(done => { tester.onmessage = ({ data }) => data.size || done(data.answer || data.played); tester.postMessage({ job, text }) })"""
+# A worker as the page has it, and more that it is to do, if any, before it answers.
+TESTER = """const worker_with = more => { const it = new Worker(URL.createObjectURL(new Blob([document.getElementById('worker').textContent, more]))); it.postMessage({ packed }); return it }
+const asked = (worker, job, text) => new Promise(done => { worker.onmessage = ({ data }) => data.size || done(data.answer || data.played || data); worker.postMessage({ job, text }) })
+const tester = worker_with(''), tried = (job, text) => asked(tester, job, text)"""
+# All but some small blocks is taken before the first answer.
+WANTING = "const open_it = open_module; open_module = async it => { await open_it(it); call('play', 'mutex 2\\n'.padEnd(120, '\\n')); for (let size = 2 ** 32; size >= 2 ** 20; size /= 2) while (exported.page_take(BigInt(size))); }"
 
 
 def read(file):
@@ -44,6 +47,11 @@ def stored():
             picture = f"docs/pictures/{os.path.basename(stem)}.svg"
             if os.path.exists(picture):
                 yield "draw", text, read(picture), fault, status
+    for table in sorted(glob.glob("texts/sync-*/*.txt")):
+        for text, printed in cases_in(read(table)):
+            status, out, fault = wanted_of(printed)
+            if is_text(written(text)):
+                yield table.split("/")[1][5:], written(text).decode(), out.decode(), fault.decode(), status
 
 
 def at_random():
@@ -77,14 +85,17 @@ class Cases:
 
     def compare(self, cases):
         """What each program writes in the page."""
+        self.open()
+        for program, text, out, fault, status in cases:
+            found = self.browser.run(f"tried({json.dumps(program)}, {json.dumps(text)})")
+            # Where a fault stands alone, as sync-play says it and most tables have it, no advice is looked at.
+            said = found["error"] if fault.count("\n") != 1 else "".join(found["error"].splitlines(keepends=True)[:1])
+            self.judge(f"{program} of {text!r}", (found["out"], said, found["status"]), (out, fault, status))
+
+    def open(self):
         self.browser.open(PAGE)
         self.browser.wait("typeof play_schedule === 'function'")
         self.browser.run(TESTER)
-        for program, text, out, fault, status in cases:
-            found = self.browser.run(f"tried({json.dumps(program)}, {json.dumps(text)})")
-            # Beside a fault sync-play itself says no more.
-            said = found["error"] if program != "play" or len(fault.splitlines()) > 1 else "".join(found["error"].splitlines(keepends=True)[:1])
-            self.judge(f"{program} of {text!r}", (found["out"], said, found["status"]), (out, fault, status))
 
     def seen(self, what, condition, seconds=20):
         """Whether this comes to hold in the page."""
@@ -120,6 +131,8 @@ class Cases:
         self.seen("the picture", "picture.querySelectorAll('svg > g').length === 7 && !picture.classList.contains('stale')")
         self.judge("the address", run("location.hash"), "#play/mutex+2/1+try_lock/1+run/2+lock/2+run/2+abort/2+run")
         self.judge("nothing is wider than the page", run("document.documentElement.scrollWidth <= innerWidth"), True)
+        self.judge("what is heard", run("heard.textContent"), "party 2: exchange 0 for 1, found 1, failed, interrupted")
+        self.judge("how a party is named", run("parties.children[1].ariaLabel"), "party 2, interrupted")
         run("back.click(); back.click()")
         self.seen("back", buttons.format(1, "wait abort"))
         run("on.click()")
@@ -127,7 +140,11 @@ class Cases:
         run("history.go(-3)")
         self.seen("the browser's own back", "text.value.endsWith('2 abort\\n2 run\\n')")
         run("text.value = 'mutex 2\\n1 lokc\\n'; text.oninput()")
-        self.seen("a fault", "fault.textContent.startsWith('line 2: bad line') && picture.classList.contains('stale')")
+        self.seen("a fault", "fault.textContent.startsWith('line 2: bad line') && heard.textContent === fault.textContent && picture.classList.contains('stale')")
+        run("document.querySelector('[value=explore]').click()")
+        self.seen("the other kind begins with an example", "answers.children.length === 3 && example.selectedOptions[0].textContent === 'mutex-waiter-gives-up'")
+        run("document.querySelector('[value=play]').click()")
+        self.seen("and the text that was left is there", "text.value === 'mutex 2\\n1 lokc\\n' && fault.textContent.startsWith('line 2')")
 
     def ask_through(self, width):
         run = self.browser.run
@@ -142,6 +159,15 @@ class Cases:
 
     def go_amiss(self):
         run = self.browser.run
+        self.open()
+        run(f"globalThis.wanting = worker_with({json.dumps(WANTING)})")
+        many = read("examples/explore/rwwriter-limited-sleep.txt")
+        found = run(f"asked(wanting, 'explore', {json.dumps(many)})")
+        self.judge("want of memory", (found["status"], found["out"], found["error"]), (1, "", "no memory\n"))
+        run(f"open_text('explore', {json.dumps(many)}, 'pushState'); done({{ job: 'explore', answer: {json.dumps(found)} }})")
+        self.judge("is told, and leaves the text", run("[fault.textContent, text.value]"), ["no memory\n", many])
+        run("text.oninput()")
+        self.seen("and it is answered anew", "job === undefined && fault.textContent === '' && answers.children.length > 1")
         long = "#explore/rwwriter+4/1+write_lock,+unlock/2+write_lock,+unlock/3+read_lock,+unlock/4+write_lock,+unlock/1+may+abort/2+may+abort/3+may+abort/4+may+abort"
         self.go(800, "a schedule", "#play/mutex+2/1+lock")
         run(f"location.hash = {json.dumps(long)}")
