@@ -169,6 +169,9 @@ class Cases:
         run("text.oninput()")
         self.seen("and it is answered anew", "job === undefined && fault.textContent === '' && answers.children.length > 1")
         long = "#explore/rwwriter+4/1+write_lock,+unlock/2+write_lock,+unlock/3+read_lock,+unlock/4+write_lock,+unlock/1+may+abort/2+may+abort/3+may+abort/4+may+abort"
+        for none in ("", "#", "#play/%", "#nothing/mutex+2"):
+            self.go(800, f"no text ({none})", none)
+            self.judge("it opens with an example", run("example.selectedOptions[0].textContent"), "mutex-abort")
         self.go(800, "a schedule", "#play/mutex+2/1+lock")
         run(f"location.hash = {json.dumps(long)}")
         self.seen("how far a long question is", "!busy.hidden && /At it for [1-9]\\d* s, with [1-9]\\d* MiB/.test(busy.textContent)")
