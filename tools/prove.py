@@ -56,9 +56,11 @@ COUNTED = re.compile(r"(\d+) passed, (\d+) failed(?:, (\d+) skipped)?")
 WRITTEN, SPARE = 275_000, 3_000_000_000
 FULL = "No space left on device"
 # The parts of ./test that play texts by these programs.
-PLAYING = {"examples", "explore", "texts", "streams", "broken", "conform"}
+PLAYING = {"examples", "explore", "texts", "streams", "broken", "conform", "playground"}
 # The part that proves a program again, in a repository of its own: over what was kept of its first proof.
 COPIED = {"first": ["demo_counter"]}
+# What is proved before a part takes it.
+TAKEN = {"playground": ["sync_page"]}
 # How long after its first commit what is committed came with the same landing, in seconds.
 LANDING = 3 * 3600
 # Held while what refused edits is written.
@@ -471,6 +473,7 @@ def tasks_of(wanted, crates, until, turns):
                 add(kind, it.name, [], unproved(it), play)
     for name in wanted.get("parts", ()):
         after = [("programs", it) for it in (EXAMPLES if name in PLAYING else COPIED.get(name, ()))]
+        after += [("proofs", it) for it in TAKEN.get(name, ())]
         tasks["parts", name] = Task("parts", Part(name), after, 600, try_part)
     for task in tasks.values():
         task.after = [it for it in task.after if it in tasks and it != task.key]

@@ -5,6 +5,8 @@ import os
 import re
 
 import edits
+from play_page import PAGE as PLAYGROUND
+from play_page import WRITES, address
 
 PAGES = ["README.md", *sorted(glob.glob("docs/**/*.md", recursive=True))]
 TEXTS = {page: open(page, encoding="utf-8").read() for page in PAGES}
@@ -61,6 +63,8 @@ def listed(stem):
     rows = [row for row in TEXTS["docs/TEXT.md"].splitlines() if row.startswith(f"| [{name}](../{stem}.txt)")]
     if len(rows) != 1:
         return f"docs/TEXT.md has {len(rows)} rows of it"
+    if f"[try it](play.html{address(read(f'{stem}.txt'))})" not in rows[0]:
+        return f"docs/TEXT.md has no link to try it: play.html{address(read(f'{stem}.txt'))}"
     for ending in ("out", "err", "advice", "trace"):
         if read(f"{stem}.{ending}") and f"[{ending}](../{stem}.{ending})" not in rows[0]:
             return f"docs/TEXT.md has no link to {stem}.{ending}"
@@ -140,12 +144,16 @@ def leads(page, link):
     """What is wrong with a link to a file of the repository."""
     path, _, anchor = link.partition("#")
     file = os.path.normpath(os.path.join(os.path.dirname(page), path)) if path else page
+    # What else is wrong with the playground, ./test pages tells.
+    if file == PLAYGROUND:
+        return None if not anchor or f"#{anchor}" in map(address, map(read, glob.glob("examples/*.txt"))) else f"it links to {link}, and no example has this text"
     if not os.path.exists(file):
         return f"it links to {link}, which is not there"
     if anchor and (file not in TEXTS or anchor not in anchors(file)):
         return f"it links to {link}, and {file} has no such heading"
 
 
+report(PLAYGROUND, None if os.path.exists(PLAYGROUND) else f"it is not there: {WRITES}")
 for text in sorted(glob.glob("examples/*.txt")):
     stem = text.removesuffix(".txt")
     report(stem, listed(stem))

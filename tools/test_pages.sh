@@ -1,12 +1,20 @@
 # Each page of docs/pages is its picture, to step through; and where Chromium is at hand, a page goes as its keys, its address and a click say, every
-# step of each page is in sight at three widths, and a page has one ground in light and in dark.
+# step of each page is in sight at three widths, and a page has one ground in light and in dark. The playground docs/play.html is of these sources; it
+# gives what is stored of each example, and goes as its buttons, keys and links say.
 test_pages() {
-    local page name width
+    local page name width same
     for page in docs/pages/*.html; do
         name=$(basename -- "$page" .html)
         attempt python3 tools/step_page.py "$(caption_of "$name")" <"docs/pictures/$name.svg"
         judge "$page" 0 "$page" /dev/null
     done
+    attempt python3 tools/play_page.py --same
+    same=$status
+    if ((same)); then
+        fail docs/play.html "$(<"$room/err")"
+    else
+        succeed
+    fi
     if ! command -v chromium >/dev/null; then
         skip pages "no chromium is at hand, so no page was opened"
         return
@@ -29,6 +37,10 @@ test_pages() {
             is_in_sight "$page" "$width"
         done
     done
+    if ((!same)); then
+        limit=600 plays stored
+        limit=600 plays clicks
+    fi
     for name in "" --force-dark-mode; do
         opens docs/pages/rwwriter-last-look.html "document.title = getComputedStyle(document.body).backgroundColor === getComputedStyle(document.querySelector('.paper')).fill" "" $name
         if grep -qF "<title>true</title>" "$room/out"; then
@@ -37,6 +49,18 @@ test_pages() {
             fail "a page's ground ${name:-in light}" "it is not the picture's"
         fi
     done
+}
+
+# The playground, driven as tools/test_play_page.py says: plays WHAT
+plays() {
+    local said
+    attempt python3 tools/test_play_page.py "$1"
+    said=$(tail -n 1 -- "$room/out")
+    if ((status)) || [[ ! $said =~ ^([0-9]+)\ cases,\ 0\ wrong$ ]]; then
+        fail "docs/play.html, $1" "$(tail -n 5 -- "$room/out" "$room/err" | cut -c -2000)"
+    else
+        passed=$((passed + BASH_REMATCH[1]))
+    fi
 }
 
 # Opens a page, at an address, once a script has run in it: opens PAGE SCRIPT ADDRESS [FLAG]

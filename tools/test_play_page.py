@@ -1,0 +1,213 @@
+"""Drives docs/play.html in Chromium.
+
+    tools/test_play_page.py stored      each text and question of examples/, and of the tables of texts/, gives there what is stored of it
+    tools/test_play_page.py random      500 texts and questions, made at random, give what the built programs write
+    tools/test_play_page.py clicks      buttons, keys, links, the address, faults, want of memory and long questions, at three widths
+
+Prints what is wrong, and then how many cases were looked at. The status is 0 where nothing is wrong.
+"""
+
+import glob
+import json
+import os
+import random
+import sys
+
+from broken_texts import broken
+from browser import Browser
+from brute import question_at_random
+from played import cases_in, played, wanted_of, written
+
+PAGE = f"file://{os.path.abspath('docs/play.html')}"
+# A worker as the page has it, and more that it is to do, if any, before it answers.
+TESTER = """const worker_with = more => { const it = new Worker(URL.createObjectURL(new Blob([document.getElementById('worker').textContent, more]))); it.postMessage({ packed }); return it }
+const asked = (worker, job, text) => new Promise(done => { worker.onmessage = ({ data }) => data.size || done(data.answer || data.played || data); worker.postMessage({ job, text }) })
+const tester = worker_with(''), tried = (job, text) => asked(tester, job, text)"""
+# All but some small blocks is taken before the first answer.
+WANTING = "const open_it = open_module; open_module = async it => { await open_it(it); call('play', 'mutex 2\\n'.padEnd(120, '\\n')); for (let size = 2 ** 32; size >= 2 ** 20; size /= 2) while (exported.page_take(BigInt(size))); }"
+
+
+def read(file):
+    if not os.path.exists(file):
+        return ""
+    with open(file, encoding="utf-8", newline="") as it:
+        return it.read()
+
+
+def stored():
+    """Each example: the program, its text, and what is stored of its output, its fault and its status."""
+    for file in sorted(glob.glob("examples/*.txt") + glob.glob("examples/explore/*.txt")):
+        stem = file[:-4]
+        status, fault, text = int(read(f"{stem}.status") or 0), read(f"{stem}.err") + read(f"{stem}.advice"), read(file)
+        if "/explore/" in file:
+            yield "explore", text, read(f"{stem}.out"), fault, status
+        else:
+            yield "play", text, read(f"{stem}.out"), fault, status
+            yield "trace", text, read(f"{stem}.trace"), fault, status
+            picture = f"docs/pictures/{os.path.basename(stem)}.svg"
+            if os.path.exists(picture):
+                yield "draw", text, read(picture), fault, status
+    for table in sorted(glob.glob("texts/sync-*/*.txt")):
+        for text, printed in cases_in(read(table)):
+            status, out, fault = wanted_of(printed)
+            if is_text(written(text)):
+                yield table.split("/")[1][5:], written(text).decode(), out.decode(), fault.decode(), status
+
+
+def at_random():
+    """The same of texts that are broken at random, and of questions, by what the programs write."""
+    chance = random.Random(20261129)
+    texts = [text for text in map(broken, range(1000)) if b"\0" not in text and is_text(text)][:400]
+    for program, asked in [(it, text) for it in ("play", "trace", "draw") for text in texts] + [("explore", question_at_random(chance).encode()) for _ in range(100)]:
+        status, out, error = played(f"sync-{program}", asked)
+        yield program, asked.decode(), out.decode(), error.decode(), status
+
+
+def is_text(found):
+    try:
+        found.decode()
+    except UnicodeDecodeError:
+        return False
+    return True
+
+
+class Cases:
+    """How many cases were looked at, and how many were wrong."""
+
+    def __init__(self, browser):
+        self.browser, self.count, self.wrong = browser, 0, 0
+
+    def judge(self, what, found, wanted):
+        self.count += 1
+        if found != wanted:
+            self.wrong += 1
+            print(f"{what}: {found!r} and not {wanted!r}")
+
+    def compare(self, cases):
+        """What each program writes in the page."""
+        self.open()
+        for program, text, out, fault, status in cases:
+            found = self.browser.run(f"tried({json.dumps(program)}, {json.dumps(text)})")
+            # Where a fault stands alone, as sync-play says it and most tables have it, no advice is looked at.
+            said = found["error"] if fault.count("\n") != 1 else "".join(found["error"].splitlines(keepends=True)[:1])
+            self.judge(f"{program} of {text!r}", (found["out"], said, found["status"]), (out, fault, status))
+
+    def open(self):
+        self.browser.open(PAGE)
+        self.browser.wait("typeof play_schedule === 'function'")
+        self.browser.run(TESTER)
+
+    def seen(self, what, condition, seconds=20):
+        """Whether this comes to hold in the page."""
+        self.judge(f"{what}: {condition}", self.browser.wait(condition, seconds), True)
+
+    def go(self, width, words, address):
+        """Opens the page at an address, anew."""
+        self.browser.ask("Emulation.setDeviceMetricsOverride", width=width, height=800, deviceScaleFactor=1, mobile=False)
+        self.browser.open(PAGE + address)
+        self.seen(f"{words}, {width} wide: it opens", "typeof play_schedule === 'function' && job === undefined && text.value")
+
+    def press(self, key):
+        for kind in ("keyDown", "keyUp"):
+            self.browser.ask("Input.dispatchKeyEvent", type=kind, key=key, code=key, windowsVirtualKeyCode=13, text="\r" if kind == "keyDown" else "")
+
+    def click_through(self, width):
+        run, mutex = self.browser.run, "#play/mutex+2"
+        button = "[...parties.children[{}].querySelectorAll('button')]"
+        buttons = "%s.map(it => it.textContent).join(' ') === '{}'" % button
+        self.go(width, "a schedule", mutex)
+        self.seen("an idle party", buttons.format(0, "lock try_lock"))
+        for party, name in ((0, "try_lock"), (0, "run"), (1, "lock"), (1, "run")):
+            self.seen("a button", f"job === undefined && {button.format(party)}.some(it => it.textContent === '{name}')")
+            run(f"{button.format(party)}.find(it => it.textContent === '{name}').click()")
+        self.seen("a holder", buttons.format(0, "unlock"))
+        self.seen("a waiter", buttons.format(1, "wait abort"))
+        run(f"{button.format(1)}[1].focus()")
+        self.press("Enter")
+        self.seen("a key, and where the next one goes", "document.activeElement.textContent === 'run' && text.value.endsWith('2 abort\\n')")
+        self.press("Enter")
+        self.seen("the output", f"out.textContent === {json.dumps(read('examples/mutex-abort.out'))}")
+        self.seen("the trace", f"trace.textContent === {json.dumps(read('examples/mutex-abort.trace'))}")
+        self.seen("the picture", "picture.querySelectorAll('svg > g').length === 7 && !picture.classList.contains('stale')")
+        self.judge("the address", run("location.hash"), "#play/mutex+2/1+try_lock/1+run/2+lock/2+run/2+abort/2+run")
+        self.judge("nothing is wider than the page", run("document.documentElement.scrollWidth <= innerWidth"), True)
+        self.judge("what is heard", run("heard.textContent"), "party 2: exchange 0 for 1, found 1, failed, interrupted")
+        self.judge("how a party is named", run("parties.children[1].ariaLabel"), "party 2, interrupted")
+        run("back.click(); back.click()")
+        self.seen("back", buttons.format(1, "wait abort"))
+        run("on.click()")
+        self.seen("on", "text.value.endsWith('2 abort\\n')")
+        run("history.go(-3)")
+        self.seen("the browser's own back", "text.value.endsWith('2 abort\\n2 run\\n')")
+        run("text.value = 'mutex 2\\n1 lokc\\n'; text.oninput()")
+        self.seen("a fault", "fault.textContent.startsWith('line 2: bad line') && heard.textContent === fault.textContent && picture.classList.contains('stale')")
+        run("document.querySelector('[value=explore]').click()")
+        self.seen("the other kind begins with an example", "answers.children.length === 3 && example.selectedOptions[0].textContent === 'mutex-waiter-gives-up'")
+        run("document.querySelector('[value=play]').click()")
+        self.seen("and the text that was left is there", "text.value === 'mutex 2\\n1 lokc\\n' && fault.textContent.startsWith('line 2')")
+
+    def ask_through(self, width):
+        run = self.browser.run
+        self.go(width, "a question", "#explore/mutex+2/1+lock,+unlock/2+lock,+unlock/2+may+abort")
+        self.seen("its answer", "answers.children.length === 3")
+        self.judge("nothing is wider than the page", run("document.documentElement.scrollWidth <= innerWidth"), True)
+        run("answers.querySelector('button').click()")
+        self.seen("it is played", "out.textContent.startsWith('1 success\\n') && mode() === 'play'")
+        for name, words in (("a lost wake", "1 run"), ("Peterson's lock", "never: "), ("two philosophers", "fetch_or")):
+            run(f"[...document.querySelectorAll('nav a')].find(it => it.textContent === {json.dumps(name)}).click()")
+            self.seen(name, f"mode() === 'explore' && (out.textContent + answers.textContent).includes({json.dumps(words)})", 60)
+
+    def go_amiss(self):
+        run = self.browser.run
+        self.open()
+        run(f"globalThis.wanting = worker_with({json.dumps(WANTING)})")
+        many = read("examples/explore/rwwriter-limited-sleep.txt")
+        found = run(f"asked(wanting, 'explore', {json.dumps(many)})")
+        self.judge("want of memory", (found["status"], found["out"], found["error"]), (1, "", "no memory\n"))
+        run(f"open_text('explore', {json.dumps(many)}, 'pushState'); done({{ job: 'explore', answer: {json.dumps(found)} }})")
+        self.judge("is told, and leaves the text", run("[fault.textContent, text.value]"), ["no memory\n", many])
+        run("text.oninput()")
+        self.seen("and it is answered anew", "job === undefined && fault.textContent === '' && answers.children.length > 1")
+        long = "#explore/rwwriter+4/1+write_lock,+unlock/2+write_lock,+unlock/3+read_lock,+unlock/4+write_lock,+unlock/1+may+abort/2+may+abort/3+may+abort/4+may+abort"
+        for none in ("", "#", "#play/%", "#nothing/mutex+2"):
+            self.go(800, f"no text ({none})", none)
+            self.judge("it opens with an example", run("example.selectedOptions[0].textContent"), "mutex-abort")
+        self.go(800, "a schedule", "#play/mutex+2/1+lock")
+        run(f"location.hash = {json.dumps(long)}")
+        self.seen("how far a long question is", "!busy.hidden && /At it for [1-9]\\d* s, with [1-9]\\d* MiB/.test(busy.textContent)")
+        run("busy.querySelector('button').click()")
+        self.seen("it is stopped", "busy.hidden && fault.textContent === 'stopped'")
+        run("location.hash = '#play/mutex+2/1+lock'")
+        self.seen("and the next text is played", "out.textContent === 'word 0 failed 0\\n'")
+        run("fail({ failed: 'a trap', opened: true })")
+        self.judge("a trap leaves the text", run("text.value"), "mutex 2\n1 lock\n")
+        run("text.oninput()")
+        self.seen("and it is played anew", "job === undefined && fault.textContent === ''")
+        run("text.value = `mutex 2\\n${'1 lock\\n1 run\\n1 unlock\\n1 run\\n'.repeat(2500)}`; text.oninput()")
+        self.seen("ten thousand lines", "draw.textContent === 'draw 12500 rows' && !draw.hidden && trace.textContent.length < 200000", 60)
+        self.judge("nor are they in the address", run("location.hash"), "")
+
+
+def main():
+    browser = Browser()
+    cases = Cases(browser)
+    try:
+        if sys.argv[1:] == ["stored"]:
+            cases.compare(stored())
+        elif sys.argv[1:] == ["random"]:
+            cases.compare(at_random())
+        elif sys.argv[1:] == ["clicks"]:
+            for width in (400, 800, 1400):
+                cases.click_through(width)
+                cases.ask_through(width)
+            cases.go_amiss()
+        else:
+            sys.exit(__doc__)
+    finally:
+        browser.close()
+    print(f"{cases.count} cases, {cases.wrong} wrong")
+    return 1 if cases.wrong else 0
+
+
+if __name__ == "__main__":
+    sys.exit(main())
