@@ -27,15 +27,14 @@ TESTED = {
     "running_rw_writer RwLockWriterPreference::new": "locks_that_find_no_memory",
     "running_rw_value RwLock::new": "a_value_comes_back_where_there_is_no_memory",
     "running_semaphore Semaphore::new": "locks_that_find_no_memory",
+    "running_sharing Handle::split_into": "handles_that_find_no_memory",
     "running_spin_lock SpinLock::new": "a_spin_lock_that_finds_no_memory_hands_its_value_back",
-    "sleeping_guarded GuardedHandle::split_into": "handles_that_find_no_memory",
+    "sleeping_barrier SleepingBarrier::new": "objects_that_find_no_memory",
     "sleeping_guarded SleepingGuarded::new": "objects_that_find_no_memory",
     "sleeping_monitor SleepingMonitor::new": "objects_that_find_no_memory",
-    "sleeping_mutex MutexHandle::split_into": "handles_that_find_no_memory",
     "sleeping_mutex SleepingMutex::new": "objects_that_find_no_memory",
     "sleeping_rw_value RwValueHandle::split_into": "handles_that_find_no_memory",
     "sleeping_rw_value SleepingRwValue::new": "objects_that_find_no_memory",
-    "sleeping_semaphore SemaphoreHandle::split_into": "handles_that_find_no_memory",
     "sleeping_semaphore SleepingSemaphore::new": "objects_that_find_no_memory",
     "sync_play play_text": "texts_that_find_no_memory",
     "sync_play read_all": "texts_that_find_no_memory",
@@ -57,8 +56,8 @@ SWEPT = {
 # Programs that nobody calls, and tests.
 APART = re.compile(r"test_.*|demo_.*|.*_main|sync_bench|bench_.*|running_closures")
 
-FUNCTION = re.compile(r"^ *pub fn (\w+)", re.M)
-OWNER = re.compile(r"^impl\b(?:<.*>)? (?:[\w:]+(?:<.*>)? for )?(\w+)", re.M)
+FUNCTION = re.compile(r"^ *(?:pub|final) fn (\w+)", re.M)
+OWNER = re.compile(r"^(?:pub trait |impl\b(?:<.*>)? (?:[\w:]+(?:<.*>)? for )?)(\w+)", re.M)
 
 
 def end_of(source, at, opening, closing):

@@ -4,7 +4,7 @@
 #![tactic(auto)]
 
 use circular_buffer::HeapCircularBuffer;
-use sleeping_guarded::{GuardedHandle, SleepingGuarded};
+use sleeping_guarded::{GuardedHandle, Handle, SleepingGuarded};
 use sleeping_semaphore::{SemaphoreHandle, SleepingSemaphore};
 use std::alloc::AllocError;
 use std::sync::Wait;

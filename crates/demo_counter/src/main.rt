@@ -1,7 +1,7 @@
 //! Four threads count under one lock.
 #![tactic(auto)]
 
-use sleeping_guarded::{GuardedHandle, SleepingGuarded};
+use sleeping_guarded::{GuardedHandle, Handle, SleepingGuarded};
 use std::alloc::AllocError;
 use std::sync::Wait;
 use std::{io, thread};

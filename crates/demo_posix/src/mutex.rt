@@ -7,7 +7,7 @@ ghost use Rattle.sleeping_mutex.specs.HandleShown.{IsSleepingPass};
 
 use crate::errno::Errno;
 use running_mutex::MutexPass;
-use sleeping_mutex::SleepingMutex;
+use sleeping_mutex::{Handle, SleepingMutex};
 use std::alloc::{AllocError, Global};
 use std::sync::Wait;
 use std::thread;

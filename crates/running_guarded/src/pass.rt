@@ -55,9 +55,8 @@ impl GuardedPass {
         ensures weights { IfOk result (λ parts. AddUp (part_of self) (part_of parts.0) (part_of parts.1)) }
     {
         let mut pass = self;
-        let mut seat = pass.rise::<T>();
-        let other = of.table.shared.split_seat::<Cut>(&mut seat);
-        Ok((GuardedPass::seated(seat), GuardedPass::seated(other)))
+        let other = pass.part_off(of);
+        Ok((pass, other))
     }
 
     /// One pass from two of the same value, which counted and knows what both did, and weighs what both weighed. `Err`, which never
@@ -74,15 +73,12 @@ impl GuardedPass {
         ensures weights { IfOk result (λ both. AddUp (part_of both) (part_of a) (part_of b)) }
         ensures again { (p : Part) → IsSamePart (part_of a) (half p) → IsSamePart (part_of b) (half p) → IfOk result (λ both. IsAgain p (part_of both)) }
     {
-        let mut one = a;
-        let mut two = b;
-        let mut seat = one.rise::<T>();
-        let other = two.rise::<T>();
-        of.table.shared.join_seat::<Cut>(&mut seat, other);
-        Ok(GuardedPass::seated(seat))
+        let mut pass = a;
+        pass.absorb(b, of);
+        Ok(pass)
     }
 
-    /// Half of this pass, which keeps the other half: what `split` does, for a handle, which owns its pass.
+    /// Half of this pass, which keeps the other half.
     #[inline(always)]
     pub fn part_off<T, A: Allocator>(&mut self, of: &Guarded<T, A>) -> GuardedPass
         requires own { IsGuardedPass of.now self.old }
@@ -95,7 +91,7 @@ impl GuardedPass {
         GuardedPass::seated(half)
     }
 
-    /// This pass and another of the same value, as one: what `join` does.
+    /// This pass and another of the same value, as one.
     #[inline(always)]
     pub fn absorb<T, A: Allocator>(&mut self, other: GuardedPass, of: &Guarded<T, A>)
         requires own { IsGuardedPass of.now self.old × IsGuardedPass of.now other }

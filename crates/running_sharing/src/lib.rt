@@ -6,6 +6,9 @@ ghost use Rattle.running_passes.specs.declared.part.Part.{Part};
 ghost use Rattle.running_passes.specs.Parts.{half, IsSamePart, IsAgain};
 ghost use denote.Param.Send.{IsSync, IsSend};
 
+mod handle;
+
+pub use crate::handle::Handle;
 use std::thread;
 use std::thread::Threads;
 

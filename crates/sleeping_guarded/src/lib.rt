@@ -9,6 +9,7 @@ pub use crate::locked::Locked;
 use running_closures::Sleepers;
 use running_guarded::{Guarded, GuardedPass};
 use running_passes::WaitResult;
+pub use running_sharing::Handle;
 use std::alloc::{AllocError, Allocator, Global};
 use std::sync::Wait;
 use std::time::{Clock, Instant};
@@ -103,11 +104,9 @@ impl<T, A: Allocator> SleepingGuarded<T, A> {
 }
 
 impl<'g, T, A: Allocator> GuardedHandle<'g, T, A> {
-    ghost use Rattle.running_passes.specs.declared.part.Part.{Part};
-    ghost use Rattle.running_passes.specs.Parts.{half, IsAgain, IsSamePart, AddUp};
-    ghost use Rattle.std.specs.Prelude.{◌≡◌, None, IfSome, IfNone, IsSome, ◌<◌, vec_len, IfOk};
+    ghost use Rattle.std.specs.Prelude.{◌≡◌, None, IfSome, IfNone, IsSome};
     ghost use Rattle.running_guarded.specs.GuardedSteps.{Acts};
-    ghost use Rattle.sleeping_guarded.specs.HandleShown.{IsSleepingPass, object_of, pass_of, part_with, PassHas, HasLockedOnce, HasLockedAtOnce, HasGivenUp, HasSeenLocked};
+    ghost use Rattle.sleeping_guarded.specs.HandleShown.{IsSleepingPass, object_of, pass_of, PassHas, HasLockedOnce, HasLockedAtOnce, HasGivenUp, HasSeenLocked};
 
     /// Locks the value, asleep until it is free, calls `act` with it, unlocks, and wakes one that sleeps.
     #[inline(always)]
@@ -169,53 +168,6 @@ impl<'g, T, A: Allocator> GuardedHandle<'g, T, A> {
         self.of.try_act(&mut self.pass, act)
     }
 
-    /// Two handles of the same value, each with a part of the pass, for a thread more.
-    pub fn split(self) -> (GuardedHandle<'g, T, A>, GuardedHandle<'g, T, A>)
-        ensures object { (object_of result.0 ≡ object_of self.entry) × (object_of result.1 ≡ object_of self.entry) }
-        ensures halves { (part_with result.0 ≡ half (part_with self.entry)) × (part_with result.1 ≡ half (part_with self.entry)) }
-    {
-        let GuardedHandle { of, pass } = self;
-        let Ok((pass, other)) = pass.split(&of.value) else {
-            unreachable!()
-        };
-        let other = GuardedHandle { of, pass: other };
-        (GuardedHandle { of, pass }, other)
-    }
-
-    /// So many handles of the same object, for as many threads; one, where none are asked for.
-    pub fn split_into<B: Allocator>(
-        self,
-        alloc: B,
-        many: usize,
-    ) -> Result<Vec<GuardedHandle<'g, T, A>, B>, AllocError>
-        ensures many { IfOk result (λ handles. 0 < many → vec_len handles ≡ many) }
-    {
-        let mut handles = Vec::new(alloc);
-        let mut rest = self;
-        for _ in 1..many {
-            let (handle, other) = rest.split();
-            rest = other;
-            handles.push(handle)?;
-        }
-        handles.push(rest)?;
-        Ok(handles)
-    }
-
-    /// One handle from two of the same value.
-    pub fn join(self, other: GuardedHandle<'g, T, A>) -> GuardedHandle<'g, T, A>
-        requires same { object_of other ≡ object_of self }
-        ensures object { object_of result ≡ object_of self.entry }
-        ensures weights { AddUp (part_with result) (part_with self.entry) (part_with other.entry) }
-        ensures again { (p : Part) → IsSamePart (part_with self.entry) (half p) → IsSamePart (part_with other.entry) (half p) → IsAgain p (part_with result) }
-    {
-        let GuardedHandle { of, pass } = self;
-        let GuardedHandle { of: _, pass: other } = other;
-        let Ok(pass) = GuardedPass::join(pass, other, &of.value) else {
-            unreachable!()
-        };
-        GuardedHandle { of, pass }
-    }
-
     /// The pass alone, for who counts.
     #[inline(always)]
     pub fn into_pass(self) -> GuardedPass
@@ -224,5 +176,31 @@ impl<'g, T, A: Allocator> GuardedHandle<'g, T, A> {
     {
         let GuardedHandle { of: _, pass } = self;
         pass
+    }
+}
+
+impl<T, A: Allocator> Handle for GuardedHandle<'_, T, A> {
+    ghost use Rattle.std.specs.Prelude.{◌≡◌};
+    ghost use Rattle.sleeping_guarded.specs.HandleShown.{object_of, part_with};
+
+    ghost same = { λ one other. object_of other ≡ object_of one };
+
+    ghost part = { part_with };
+
+    fn split(self) -> (Self, Self) {
+        let GuardedHandle { of, pass } = self;
+        let Ok((pass, other)) = pass.split(&of.value) else {
+            unreachable!()
+        };
+        (of.handle(pass), of.handle(other))
+    }
+
+    fn join(self, other: Self) -> Self {
+        let GuardedHandle { of, pass } = self;
+        let GuardedHandle { of: _, pass: other } = other;
+        let Ok(pass) = GuardedPass::join(pass, other, &of.value) else {
+            unreachable!()
+        };
+        of.handle(pass)
     }
 }

@@ -11,6 +11,7 @@ mod changes;
 pub use crate::changes::Changes;
 use model_events::WaitAction;
 use running_guarded::GuardedPass;
+pub use sleeping_guarded::Handle;
 use sleeping_guarded::{GuardedHandle, SleepingGuarded};
 use std::alloc::{AllocError, Allocator, Global};
 use std::sync::Wait;
@@ -154,9 +155,17 @@ impl<'m, T, A: Allocator> MonitorHandle<'m, T, A> {
         let given = act(&mut *value);
         (given, self.changes.seen())
     }
+}
 
-    /// Two handles of the same value, for a thread more.
-    pub fn split(self) -> (MonitorHandle<'m, T, A>, MonitorHandle<'m, T, A>) {
+impl<T, A: Allocator> Handle for MonitorHandle<'_, T, A> {
+    ghost use Rattle.sleeping_guarded.specs.HandleShown.{object_of, part_with};
+    ghost use Rattle.sleeping_monitor.specs.HandleShown.{value_with};
+
+    ghost same = { λ one other. object_of (value_with other) ≡ object_of (value_with one) };
+
+    ghost part = { λ handle. part_with (value_with handle) };
+
+    fn split(self) -> (Self, Self) {
         let MonitorHandle { changes, value } = self;
         let (value, other) = value.split();
         let other = MonitorHandle {
@@ -164,5 +173,17 @@ impl<'m, T, A: Allocator> MonitorHandle<'m, T, A> {
             value: other,
         };
         (MonitorHandle { changes, value }, other)
+    }
+
+    fn join(self, other: Self) -> Self {
+        let MonitorHandle { changes, value } = self;
+        let MonitorHandle {
+            changes: _,
+            value: other,
+        } = other;
+        MonitorHandle {
+            changes,
+            value: value.join(other),
+        }
     }
 }

@@ -20,23 +20,8 @@ pub record Acts {F X : Type 0} (g : Once F (Bor MutexHold × Unit {0}) X) (act :
   pub shown : Bor MutexHold
   pub says : FnOnceReturns g act (shown, tt) given
 
--- The pass was granted by a `Lock` of the model and has let go again by an `Unlock`; nothing else changed but what was seen on the way.
-pub record HasLockedOnce (p q : MutexPass) : Type 0 where
-  pub within : MutexPass
-  pub entered : HasEntered p within
-  pub came : HasPlayed calls.Lock answers.Success (Some kinds.Write) p within
-  pub unlocked : HasUnlocked within q
-  pub went : HasPlayedUnlock within q
-
--- so, at the first exchange
-pub record HasLockedAtOnce (p q : MutexPass) : Type 0 where
-  pub within : MutexPass
-  pub locked : HasLocked p within
-  pub came : HasPlayed calls.TryLock answers.Success (Some kinds.Write) p within
-  pub unlocked : HasUnlocked within q
-  pub went : HasPlayedUnlock within q
-
--- The same in two: it was granted, and has not let go yet; and it has let go.
+-- The pass was granted by a `Lock` of the model, and has not let go yet; so, at the first exchange; and it has let go by an `Unlock`.
+-- Nothing else changed but what was seen on the way.
 pub record HasComeIn (p q : MutexPass) : Type 0 where
   pub entered : HasEntered p q
   pub came : HasPlayed calls.Lock answers.Success (Some kinds.Write) p q
@@ -48,6 +33,17 @@ pub record HasComeInAtOnce (p q : MutexPass) : Type 0 where
 pub record HasLetGo (p q : MutexPass) : Type 0 where
   pub unlocked : HasUnlocked p q
   pub went : HasPlayedUnlock p q
+
+-- both, one after the other
+pub record HasLockedOnce (p q : MutexPass) : Type 0 where
+  pub within : MutexPass
+  pub came_in : HasComeIn p within
+  pub let_go : HasLetGo within q
+
+pub record HasLockedAtOnce (p q : MutexPass) : Type 0 where
+  pub within : MutexPass
+  pub came_in : HasComeInAtOnce p within
+  pub let_go : HasLetGo within q
 
 -- the call was refused in 10001 tries of its own, and in one more at least once it had slept, or had looked at the clock
 pub record HasGivenUp (p q : MutexPass) : Type 0 where

@@ -11,7 +11,7 @@ mod locked;
 pub use crate::locked::Locked;
 use running_closures::Sleepers;
 use running_mutex::{Mutex, MutexHold, MutexPass};
-use running_passes::WaitResult;
+pub use running_sharing::Handle;
 use std::alloc::{AllocError, Allocator, Global};
 use std::sync::Wait;
 use std::time::{Clock, Instant};
@@ -36,13 +36,13 @@ pub struct MutexHandle<'m, A: Allocator = Global> {
 }
 
 impl<A: Allocator> SleepingMutex<A> {
-    ghost use Rattle.std.specs.Prelude.{None, IfOk, IfSome, IfNone, IsSome};
+    ghost use Rattle.std.specs.Prelude.{IfOk};
     ghost use Rattle.running_passes.specs.Passes.{view};
     ghost use Rattle.running_passes.specs.Views.{first_view};
     ghost use Rattle.running_model.specs.Slots.{no_parties};
     ghost use Rattle.running_model.specs.Passes.{played};
     ghost use Rattle.running_tallies.specs.Mutex.{no_holds};
-    ghost use Rattle.sleeping_mutex.specs.HandleShown.{IsSleepingPass, below, object_of, pass_of, Acts, HasLockedOnce, HasLockedAtOnce, HasGivenUp, HasSeenLocked};
+    ghost use Rattle.sleeping_mutex.specs.HandleShown.{IsSleepingPass, below, object_of, pass_of};
 
     /// A mutex that is free, at which nobody sleeps, and the pass that is whole. `Err` where there was no memory; then nothing was made.
     pub fn new(alloc: A) -> Result<(SleepingMutex<A>, MutexPass), AllocError>
@@ -76,91 +76,11 @@ impl<A: Allocator> SleepingMutex<A> {
             held,
         }
     }
-
-    #[inline(always)]
-    fn act<X, R: Wait, F: FnOnce(&MutexHold<'_>) -> X>(
-        &self,
-        rt: &R,
-        pass: &mut MutexPass,
-        act: F,
-    ) -> X
-        requires own { IsSleepingPass self.now pass.old }
-        requires may { F.IsAlwaysCallable act }
-        ensures locked { HasLockedOnce pass.old pass.new }
-        ensures acted { Acts F.FnOnce act result }
-    {
-        let sleepers = &self.sleepers;
-        match Mutex::lock(
-            pass,
-            &self.mutex,
-            rt,
-            |word, seen| sleepers.sleep(rt, word, *seen),
-        ) {
-            WaitResult::Success(hold) => {
-                let given = act(&hold);
-                self.mutex.unlock(hold, |_| sleepers.wake_one());
-                given
-            }
-            WaitResult::Interrupted => unreachable!(),
-        }
-    }
-
-    #[inline(always)]
-    fn act_until<X, R: Wait + Clock, F: FnOnce(&MutexHold<'_>) -> X>(
-        &self,
-        rt: &R,
-        pass: &mut MutexPass,
-        deadline: Option<Instant>,
-        act: F,
-    ) -> Option<X>
-        requires own { IsSleepingPass self.now pass.old }
-        requires may { F.IsAlwaysCallable act }
-        ensures locked { IfSome result (λ _. HasLockedOnce pass.old pass.new) }
-        ensures acted { IfSome result (λ x. Acts F.FnOnce act x) }
-        ensures gave_up { IfNone result (HasGivenUp pass.old pass.new) }
-        ensures waits { deadline ≡ None → IsSome result }
-    {
-        let sleepers = &self.sleepers;
-        match Mutex::lock(
-            pass,
-            &self.mutex,
-            rt,
-            |word, seen| sleepers.sleep_until(rt, word, *seen, deadline),
-        ) {
-            WaitResult::Success(hold) => {
-                let given = act(&hold);
-                self.mutex.unlock(hold, |_| sleepers.wake_one());
-                Some(given)
-            }
-            WaitResult::Interrupted => None,
-        }
-    }
-
-    #[inline(always)]
-    fn try_act<X, F: FnOnce(&MutexHold<'_>) -> X>(&self, pass: &mut MutexPass, act: F) -> Option<X>
-        requires own { IsSleepingPass self.now pass.old }
-        requires may { F.IsAlwaysCallable act }
-        ensures locked { IfSome result (λ _. HasLockedAtOnce pass.old pass.new) }
-        ensures acted { IfSome result (λ x. Acts F.FnOnce act x) }
-        ensures refused { IfNone result (HasSeenLocked pass.old pass.new) }
-    {
-        let sleepers = &self.sleepers;
-        match Mutex::try_lock(pass, &self.mutex) {
-            WaitResult::Success(hold) => {
-                let given = act(&hold);
-                self.mutex.unlock(hold, |_| sleepers.wake_one());
-                Some(given)
-            }
-            WaitResult::Interrupted => None,
-        }
-    }
 }
 
 impl<'m, A: Allocator> MutexHandle<'m, A> {
-    ghost use Rattle.running_passes.specs.declared.part.Part.{Part};
-    ghost use Rattle.running_passes.specs.Parts.{half, IsAgain, IsSamePart, AddUp};
-    ghost use Rattle.std.specs.Prelude.{◌≡◌, None, IfSome, IfNone, IsSome, ◌<◌, vec_len, IfOk};
-    ghost use Rattle.sleeping_mutex.specs.HandleShown.{IsSleepingPass, object_of, pass_of, part_with, PassHas, Acts, HasLockedOnce, HasLockedAtOnce, HasGivenUp, HasSeenLocked};
+    ghost use Rattle.std.specs.Prelude.{None, IfSome, IfNone, IsSome};
+    ghost use Rattle.sleeping_mutex.specs.HandleShown.{IsSleepingPass, object_of, pass_of, PassHas, Acts, HasLockedOnce, HasLockedAtOnce, HasGivenUp, HasSeenLocked};
 
     /// Locks the mutex, asleep until it is free, calls `act`, unlocks, and wakes one that sleeps. `act` is shown the hold, so what asks for
     /// one is done under the lock.
@@ -170,7 +90,8 @@ impl<'m, A: Allocator> MutexHandle<'m, A> {
         ensures locked { PassHas HasLockedOnce self.old self.new }
         ensures acted { Acts F.FnOnce act result }
     {
-        self.of.act(rt, &mut self.pass, act)
+        self.of.enter(rt, &mut self.pass);
+        self.of.act(&mut self.pass, act)
     }
 
     /// The same; `None` where the mutex was still locked once the deadline had passed, and then `act` was not called.
@@ -187,11 +108,11 @@ impl<'m, A: Allocator> MutexHandle<'m, A> {
         ensures gave_up { IfNone result (PassHas HasGivenUp self.old self.new) }
         ensures waits { deadline ≡ None → IsSome result }
     {
-        let given = self.of.act_until(rt, &mut self.pass, deadline, act);
-        if given.is_none() {
+        if !self.of.enter_until(rt, &mut self.pass, deadline) {
             self.held = false;
+            return None;
         }
-        given
+        Some(self.of.act(&mut self.pass, act))
     }
 
     /// The same without a wait; `None` where the mutex was seen locked, and then `act` was not called.
@@ -202,57 +123,11 @@ impl<'m, A: Allocator> MutexHandle<'m, A> {
         ensures acted { IfSome result (λ x. Acts F.FnOnce act x) }
         ensures refused { IfNone result (PassHas HasSeenLocked self.old self.new) }
     {
-        let given = self.of.try_act(&mut self.pass, act);
-        if given.is_none() {
+        if !self.of.try_enter(&mut self.pass) {
             self.held = false;
+            return None;
         }
-        given
-    }
-
-    /// Two handles of the same mutex, each with a part of the pass, for a thread more.
-    pub fn split(self) -> (MutexHandle<'m, A>, MutexHandle<'m, A>)
-        ensures object { (object_of result.0 ≡ object_of self.entry) × (object_of result.1 ≡ object_of self.entry) }
-        ensures halves { (part_with result.0 ≡ half (part_with self.entry)) × (part_with result.1 ≡ half (part_with self.entry)) }
-    {
-        let MutexHandle { of, pass, .. } = self;
-        let Ok((pass, other)) = pass.split(&of.mutex) else {
-            unreachable!()
-        };
-        (of.handle(pass), of.handle(other))
-    }
-
-    /// So many handles of the same object, for as many threads; one, where none are asked for.
-    pub fn split_into<B: Allocator>(
-        self,
-        alloc: B,
-        many: usize,
-    ) -> Result<Vec<MutexHandle<'m, A>, B>, AllocError>
-        ensures many { IfOk result (λ handles. 0 < many → vec_len handles ≡ many) }
-    {
-        let mut handles = Vec::new(alloc);
-        let mut rest = self;
-        for _ in 1..many {
-            let (handle, other) = rest.split();
-            rest = other;
-            handles.push(handle)?;
-        }
-        handles.push(rest)?;
-        Ok(handles)
-    }
-
-    /// One handle from two of the same mutex.
-    pub fn join(self, other: MutexHandle<'m, A>) -> MutexHandle<'m, A>
-        requires same { object_of other ≡ object_of self }
-        ensures object { object_of result ≡ object_of self.entry }
-        ensures weights { AddUp (part_with result) (part_with self.entry) (part_with other.entry) }
-        ensures again { (p : Part) → IsSamePart (part_with self.entry) (half p) → IsSamePart (part_with other.entry) (half p) → IsAgain p (part_with result) }
-    {
-        let MutexHandle { of, pass, .. } = self;
-        let MutexHandle { pass: other, .. } = other;
-        let Ok(pass) = MutexPass::join(pass, other, &of.mutex) else {
-            unreachable!()
-        };
-        of.handle(pass)
+        Some(self.of.act(&mut self.pass, act))
     }
 
     /// The pass alone, for who counts.
@@ -263,5 +138,30 @@ impl<'m, A: Allocator> MutexHandle<'m, A> {
     {
         let MutexHandle { pass, .. } = self;
         pass
+    }
+}
+
+impl<A: Allocator> Handle for MutexHandle<'_, A> {
+    ghost use Rattle.sleeping_mutex.specs.HandleShown.{object_of, part_with};
+
+    ghost same = { λ one other. object_of other ≡ object_of one };
+
+    ghost part = { part_with };
+
+    fn split(self) -> (Self, Self) {
+        let MutexHandle { of, pass, .. } = self;
+        let Ok((pass, other)) = pass.split(&of.mutex) else {
+            unreachable!()
+        };
+        (of.handle(pass), of.handle(other))
+    }
+
+    fn join(self, other: Self) -> Self {
+        let MutexHandle { of, pass, .. } = self;
+        let MutexHandle { pass: other, .. } = other;
+        let Ok(pass) = MutexPass::join(pass, other, &of.mutex) else {
+            unreachable!()
+        };
+        of.handle(pass)
     }
 }

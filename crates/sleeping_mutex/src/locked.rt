@@ -3,7 +3,7 @@ ghost use Rattle.std.specs.Prelude.{◌≡◌, true, None, IfSome, IsSome, Match
 ghost use Rattle.running_mutex.specs.MutexParties.{HasMutex};
 ghost use Rattle.running_mutex.specs.MutexShown.{holds_of};
 ghost use Rattle.running_model.specs.Passes.{parties_of};
-ghost use Rattle.sleeping_mutex.specs.HandleShown.{IsSleepingPass, PassHas, HasComeIn, HasComeInAtOnce, HasLetGo, HasGivenUp, HasSeenLocked, handle_of, borrow_of, is_held};
+ghost use Rattle.sleeping_mutex.specs.HandleShown.{IsSleepingPass, PassHas, Acts, HasComeIn, HasComeInAtOnce, HasLetGo, HasGivenUp, HasSeenLocked, handle_of, borrow_of, is_held};
 
 use crate::{MutexHandle, SleepingMutex};
 use running_mutex::{Mutex, MutexHold, MutexPass};
@@ -92,9 +92,24 @@ impl<A: Allocator> SleepingMutex<A> {
         requires has { HasMutex (parties_of pass.old) }
         ensures let_go { HasLetGo pass.old pass.new }
     {
-        let sleepers = &self.sleepers;
-        self.mutex
-            .unlock(MutexHold { pass }, |_| sleepers.wake_one());
+        let hold = MutexHold { pass };
+        self.mutex.unlock(hold, |_| self.sleepers.wake_one());
+    }
+
+    /// Shows the hold that the pass has, and then does what `leave` does.
+    #[inline(always)]
+    pub(crate) fn act<X, F: FnOnce(&MutexHold<'_>) -> X>(&self, pass: &mut MutexPass, act: F) -> X
+        requires own { IsSleepingPass self.now pass.old }
+        requires on { holds_of pass.old ≡ 1 }
+        requires has { HasMutex (parties_of pass.old) }
+        requires may { F.IsAlwaysCallable act }
+        ensures let_go { HasLetGo pass.old pass.new }
+        ensures acted { Acts F.FnOnce act result }
+    {
+        let shown = MutexHold { pass };
+        let given = act(&shown);
+        self.mutex.unlock(shown, |_| self.sleepers.wake_one());
+        given
     }
 }
 

@@ -6,6 +6,7 @@ ghost use Rattle.running_semaphore.specs.SemaphoreShown.{IsSemPass};
 use running_closures::Sleepers;
 use running_passes::WaitResult;
 use running_semaphore::{SemPass, Semaphore};
+pub use running_sharing::Handle;
 use std::alloc::{AllocError, Allocator, Global};
 use std::sync::Wait;
 use std::time::{Clock, Instant};
@@ -77,10 +78,8 @@ impl<A: Allocator> SleepingSemaphore<A> {
 }
 
 impl<'s, A: Allocator> SemaphoreHandle<'s, A> {
-    ghost use Rattle.running_passes.specs.declared.part.Part.{Part};
-    ghost use Rattle.running_passes.specs.Parts.{half, IsAgain, IsSamePart, AddUp};
-    ghost use Rattle.std.specs.Prelude.{◌≡◌, None, true, MatchBool, IfSome, IfNone, IsSome, ◌<◌, vec_len, IfOk};
-    ghost use Rattle.sleeping_semaphore.specs.HandleShown.{IsSleepingPass, object_of, pass_of, part_with, handle_of, borrow_of, PassHas, HasTaken, HasTakenNow, HasGivenUp, HasSeenNone, HasPosted};
+    ghost use Rattle.std.specs.Prelude.{◌≡◌, None, true, MatchBool, IfSome, IfNone, IsSome};
+    ghost use Rattle.sleeping_semaphore.specs.HandleShown.{IsSleepingPass, object_of, pass_of, handle_of, borrow_of, PassHas, HasTaken, HasTakenNow, HasGivenUp, HasSeenNone, HasPosted};
 
     /// Takes a permit, asleep until there is one.
     #[inline(always)]
@@ -175,53 +174,6 @@ impl<'s, A: Allocator> SemaphoreHandle<'s, A> {
         }
     }
 
-    /// Two handles of the same semaphore, each with a part of the pass, for a thread more.
-    pub fn split(self) -> (SemaphoreHandle<'s, A>, SemaphoreHandle<'s, A>)
-        ensures object { (object_of result.0 ≡ object_of self.entry) × (object_of result.1 ≡ object_of self.entry) }
-        ensures halves { (part_with result.0 ≡ half (part_with self.entry)) × (part_with result.1 ≡ half (part_with self.entry)) }
-    {
-        let SemaphoreHandle { of, pass } = self;
-        let Ok((pass, other)) = pass.split(&of.semaphore) else {
-            unreachable!()
-        };
-        let other = SemaphoreHandle { of, pass: other };
-        (SemaphoreHandle { of, pass }, other)
-    }
-
-    /// So many handles of the same object, for as many threads; one, where none are asked for.
-    pub fn split_into<B: Allocator>(
-        self,
-        alloc: B,
-        many: usize,
-    ) -> Result<Vec<SemaphoreHandle<'s, A>, B>, AllocError>
-        ensures many { IfOk result (λ handles. 0 < many → vec_len handles ≡ many) }
-    {
-        let mut handles = Vec::new(alloc);
-        let mut rest = self;
-        for _ in 1..many {
-            let (handle, other) = rest.split();
-            rest = other;
-            handles.push(handle)?;
-        }
-        handles.push(rest)?;
-        Ok(handles)
-    }
-
-    /// One handle from two of the same semaphore.
-    pub fn join(self, other: SemaphoreHandle<'s, A>) -> SemaphoreHandle<'s, A>
-        requires same { object_of other ≡ object_of self }
-        ensures object { object_of result ≡ object_of self.entry }
-        ensures weights { AddUp (part_with result) (part_with self.entry) (part_with other.entry) }
-        ensures again { (p : Part) → IsSamePart (part_with self.entry) (half p) → IsSamePart (part_with other.entry) (half p) → IsAgain p (part_with result) }
-    {
-        let SemaphoreHandle { of, pass } = self;
-        let SemaphoreHandle { of: _, pass: other } = other;
-        let Ok(pass) = SemPass::join(pass, other, &of.semaphore) else {
-            unreachable!()
-        };
-        SemaphoreHandle { of, pass }
-    }
-
     /// The pass alone, for who counts.
     #[inline(always)]
     pub fn into_pass(self) -> SemPass
@@ -230,6 +182,32 @@ impl<'s, A: Allocator> SemaphoreHandle<'s, A> {
     {
         let SemaphoreHandle { of: _, pass } = self;
         pass
+    }
+}
+
+impl<A: Allocator> Handle for SemaphoreHandle<'_, A> {
+    ghost use Rattle.std.specs.Prelude.{◌≡◌};
+    ghost use Rattle.sleeping_semaphore.specs.HandleShown.{object_of, part_with};
+
+    ghost same = { λ one other. object_of other ≡ object_of one };
+
+    ghost part = { part_with };
+
+    fn split(self) -> (Self, Self) {
+        let SemaphoreHandle { of, pass } = self;
+        let Ok((pass, other)) = pass.split(&of.semaphore) else {
+            unreachable!()
+        };
+        (of.handle(pass), of.handle(other))
+    }
+
+    fn join(self, other: Self) -> Self {
+        let SemaphoreHandle { of, pass } = self;
+        let SemaphoreHandle { of: _, pass: other } = other;
+        let Ok(pass) = SemPass::join(pass, other, &of.semaphore) else {
+            unreachable!()
+        };
+        of.handle(pass)
     }
 }
 

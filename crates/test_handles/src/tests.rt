@@ -1,6 +1,10 @@
 //! Calls on their happy path, refusals beside a holder, and threads that sleep and are woken. What these need of a handle is said by its type.
+mod barrier;
 mod guarded;
+mod guarded_guards;
+mod monitor;
 mod mutex;
+mod mutex_guards;
 mod refusals;
 mod rw_value;
 mod semaphore;

@@ -2,7 +2,7 @@
 use super::linger;
 use model_events::WaitAction;
 use running_passes::WaitResult;
-use sleeping_guarded::{GuardedHandle, SleepingGuarded};
+use sleeping_guarded::{GuardedHandle, Handle, SleepingGuarded};
 use std::alloc::AllocError;
 use std::sync::Wait;
 use std::test::Fail;

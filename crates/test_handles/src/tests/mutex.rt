@@ -2,7 +2,7 @@
 use super::linger;
 use running_mutex::{Mutex, MutexHold};
 use running_passes::WaitResult;
-use sleeping_mutex::{MutexHandle, SleepingMutex};
+use sleeping_mutex::{Handle, MutexHandle, SleepingMutex};
 use std::sync::Wait;
 use std::sync::atomic::{AtomicU64, Ordering};
 use std::test::Fail;

@@ -1,6 +1,6 @@
 //! Handles of a semaphore, and its permits.
 use super::linger;
-use sleeping_semaphore::{SemaphoreHandle, SleepingSemaphore};
+use sleeping_semaphore::{Handle, SemaphoreHandle, SleepingSemaphore};
 use std::sync::Wait;
 use std::test::Fail;
 use std::thread;

@@ -1,5 +1,5 @@
 use Rattle.std.proofs.Common.{◌≡◌, ◌+◌, length}
-use Rattle.sleeping_semaphore.proofs.SemaphoreHandle.split_into.Given as goal
+use Rattle.running_sharing.proofs.handle.Handle.split_into.Given as goal
 
 abbrev pub invariant-loop : goal.invariant-loop
 invariant-loop g l = length l.handles.items + 1 ≡ l.counter
