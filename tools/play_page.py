@@ -2,7 +2,7 @@
 
     tools/play_page.py             writes it; the programs are taken from it where they are of these sources, and else proved and built
     tools/play_page.py --same      whether it is what that would write, of these sources
-    tools/play_page.py --built     whether the programs, built anew, are those that it has
+    tools/play_page.py --built     whether the programs, built anew, are those that it has; with status 3 if another kit built those
 
 The kit has no heap for WebAssembly. So it proves and builds the library sync_page for x86-64, and the module that it hands to its clang is kept, and
 compiled for wasm64, beside the heap of tools/play_page.c. Nothing proves that it means the same there; ./test pages compares what it writes.
@@ -115,16 +115,24 @@ def address(text):
     return "#play/" + "/".join("+".join(line.split()) for line in text.splitlines() if line.strip())
 
 
-def page_of(packed, total):
+def unpacked(packed):
+    return gzip.decompress(base64.b64decode(packed))
+
+
+def kit_at_hand():
+    return run("rt", "version", capture_output=True, text=True).stdout.strip()
+
+
+def page_of(packed, total, kit):
     examples = [[kind, os.path.basename(file)[:-4], read(file)] for kind, names in (("play", "*.txt"), ("explore", "explore/*.txt")) for file in sorted(glob.glob(f"examples/{names}"))]
     shown = json.dumps(examples, separators=(",", ":")).replace("</", "<\\/")[1:-1]
-    return read("tools/play_page.html").replace("/* examples */", shown).replace("<!-- sources -->", total).replace("<!-- module -->", packed)
+    return read("tools/play_page.html").replace("/* examples */", shown).replace("<!-- sources -->", total).replace("<!-- kit -->", kit).replace("<!-- module -->", packed)
 
 
 def main():
     wanted = sys.argv[1:]
     old = read(PAGE) if os.path.exists(PAGE) else ""
-    packed, found = (re.search(pattern, old) for pattern in (r"const packed = '([^']*)'", r"of the sources ([0-9a-f]{64})"))
+    packed, found = (re.search(pattern, old) for pattern in (r"const packed = '([^']*)'", r"of the sources ([0-9a-f]{64}), built by (.*), as"))
     total = sum_of_sources()
     is_current = packed is not None and found is not None and found[1] == total
     if wanted == ["--same"]:
@@ -132,10 +140,13 @@ def main():
             sys.exit(f"it is not there: {WRITES}")
         if not is_current:
             sys.exit(f"its programs are of other sources than these: {WRITES}")
-        if page_of(packed[1], total) != old:
+        if page_of(packed[1], total, found[2]) != old:
             sys.exit(f"its examples or scripts are others than these: {WRITES}")
     elif wanted == ["--built"]:
-        if not packed or built() != packed[1]:
+        if found and found[2] != kit_at_hand():
+            print(f"its programs were built by {found[2]}, and {kit_at_hand()} is at hand")
+            return 3
+        if not packed or unpacked(built()) != unpacked(packed[1]):
             sys.exit(f"it has other programs than are built of these sources: {WRITES}")
     elif wanted:
         sys.exit(__doc__)
@@ -143,7 +154,7 @@ def main():
         if not is_current:
             # Else the library would be proved where nothing is kept.
             run(sys.executable, "tools/prove.py", "proofs=sync_page")
-        page = page_of(packed[1] if is_current else built(), total)
+        page = page_of(packed[1], total, found[2]) if is_current else page_of(built(), total, kit_at_hand())
         with open(PAGE, "w", encoding="utf-8") as it:
             it.write(page)
     return 0
