@@ -50,8 +50,9 @@ fn main() {
                 println!("{}", random::text(kind, &mut random::Random::new(seed, name, n), lines).join(" / "));
             }
         }
-        [] | [_] => {
-            depart_by(rows(arguments.first().map_or("", String::as_str)));
+        // One text, with these rows in force.
+        ref names => {
+            depart_by(rows(&names.join(",")));
             let mut text = Vec::new();
             std::io::stdin().read_to_end(&mut text).expect("reading failed");
             let [trace, _, fault] = play::play(&text);
@@ -59,6 +60,5 @@ fn main() {
             eprint!("{fault}");
             std::process::exit(if fault.is_empty() { 0 } else { 2 });
         }
-        _ => std::process::exit(3),
     }
 }

@@ -18,12 +18,12 @@ const WAIT_PRIVATE: i64 = 128;
 const WAKE_PRIVATE: i64 = 129;
 const LONG: Duration = Duration::from_millis(100);
 
-/// Sleeps while the word holds this, until it is woken; whether nobody does for long. A futex is the low 32 bits of a word.
+/// Sleeps while the word holds this, until it is woken; whether it slept for long. A futex is the low 32 bits of a word.
 fn sleeps_long(word: &AtomicU64, seen: u64) -> bool {
     let limit = [0i64, LONG.as_nanos() as i64];
     let start = Instant::now();
     unsafe { syscall(FUTEX, word.as_ptr(), WAIT_PRIVATE, seen as u32 as u64, limit.as_ptr(), 0, 0) };
-    start.elapsed() >= LONG && word.load(SeqCst) == seen
+    start.elapsed() >= LONG
 }
 
 fn wake(word: &AtomicU64, most: i64) {
@@ -58,7 +58,8 @@ fn main() {
                     let start = Instant::now();
                     let sleep = |word: &AtomicU64, seen: &u64| {
                         spins.fetch_min(start.elapsed().as_nanos() as u64, SeqCst);
-                        if sleeps_long(word, *seen) && left.load(SeqCst) == round {
+                        // The reader has left, so its add is made. If the count is still the one told, no wake will come.
+                        if sleeps_long(word, *seen) && left.load(SeqCst) == round && word.load(SeqCst) == *seen {
                             slept.fetch_add(1, SeqCst);
                         }
                         WaitAction::Continue
