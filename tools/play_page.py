@@ -72,9 +72,11 @@ def keeping(kit, room):
 def lay_out(room, git):
     """The crates that the library stands on, with what is proved of them here or on the shelf of tools/prove.py."""
     os.makedirs(room)
-    for file in ("crates.txt", "HANDLES"):
-        shutil.copy(file, room)
-    for crate in crates_below("sync_page"):
+    shutil.copy("HANDLES", room)
+    crates = crates_below("sync_page")
+    with open(f"{room}/crates.txt", "w", encoding="utf-8") as it:
+        it.writelines(line for line in read("crates.txt").splitlines(True) if line.split()[0].rstrip(":") in crates)
+    for crate in crates:
         shutil.copytree(f"crates/{crate}", f"{room}/crates/{crate}", ignore=shutil.ignore_patterns("out", "must-fail"))
         for part in ("rlib", "incremental"):
             found = [it for it in (f"crates/{crate}/out/{part}", f"{git}/lanes/proved/{crate}/{part}") if os.path.exists(it)]
