@@ -164,11 +164,11 @@ class Cases:
         many = read("examples/explore/rwwriter-limited-sleep.txt")
         found = run(f"asked(wanting, 'explore', {json.dumps(many)})")
         self.judge("want of memory", (found["status"], found["out"], found["error"]), (1, "", "no memory\n"))
-        run(f"open_text('explore', {json.dumps(many)}, 'pushState'); done({{ job: 'explore', answer: {json.dumps(found)} }})")
-        self.judge("is told, and leaves the text", run("[fault.textContent, text.value]"), ["no memory\n", many])
+        told = run(f"open_text('explore', {json.dumps(many)}, 'pushState'); done({{ job: 'explore', answer: {json.dumps(found)} }}); [fault.textContent, text.value]")
+        self.judge("is told, and leaves the text", told, ["no memory\n", many])
         run("text.oninput()")
         self.seen("and it is answered anew", "job === undefined && fault.textContent === '' && answers.children.length > 1")
-        long = "#explore/rwwriter+4/1+write_lock,+unlock/2+write_lock,+unlock/3+read_lock,+unlock/4+write_lock,+unlock/1+may+abort/2+may+abort/3+may+abort/4+may+abort"
+        long = "#explore/semaphore+7+1/" + "/".join(f"{it}+start_wait,+post+1" for it in range(1, 8))
         for none in ("", "#", "#play/%", "#nothing/mutex+2"):
             self.go(800, f"no text ({none})", none)
             self.judge("it opens with an example", run("example.selectedOptions[0].textContent"), "mutex-abort")
