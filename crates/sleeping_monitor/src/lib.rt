@@ -111,7 +111,7 @@ impl<'m, T, A: Allocator> MonitorHandle<'m, T, A> {
         unreachable!()
     }
 
-    /// The same; `None` where `act` still gave nothing once the deadline had passed.
+    /// The same; `None` where `act` gave nothing when it last looked, and the deadline has passed since.
     pub fn when_until<X, R: Wait + Clock, F: FnMut(&mut T) -> Option<X>>(
         &mut self,
         rt: &R,
