@@ -21,12 +21,12 @@ RENAMES = re.compile(r"\blet (?!_)\w+ = &?(?:wait|wakeup|wake|wake_one|wake_all|
 STEP = re.compile(r"(?:\.|::)(?:(?:load|store|swap|fetch_\w+|compare_exchange\w*|\w+_new_seat)::<(?!_,)|learn\()")
 SAID = re.compile(r"(?<!fn )\bspend\(|\bBy::<|::<(?:\w+, )*Brand\b|^impl\b.*\bWay<")
 # A function that could be handed on by its name: one that is told a word, as wait and wake closures are; and those of `running_closures`.
-NAMED = re.compile(r"^(?:(?:pub(?:\([^)]*\))? |const )*fn \w+(?:<.*>)?\()?\w+: &(?:\w+::)*(?:WaitWord|CountedWait)\b|\brunning_closures\b")
+NAMED = re.compile(r"^(?:(?:pub(?:\([^)]*\))? |const )*fn \w+(?:<.*>)?\()?(?:\w+: &(?:\w+::)*(?:\w*Word|CountedWait)|_?word: &[A-Z])\b|\brunning_closures\b")
 # What a call hands on to choose by, or to run, is its caller's.
 HANDED = re.compile(r"\.(?:choose|run)\(.*, (?!f\))\w+\)")
 COMING = re.compile(r"^ghost coming = \{ (?:λ \w+\. )?(\w+)")
 # What the running types share or hand in, which has no call of a model.
-SHARED = {"running_passes", "running_tallies", "running_sharing", "running_closures"}
+SHARED = {"running_passes", "running_for_one", "running_sharing", "running_closures"}
 BEGINS = ("Beginning", "Continuing", "Choosing")
 
 

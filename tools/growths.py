@@ -15,6 +15,8 @@ TESTED = {
     "job_queue JobQueue::new": "a_queue_that_finds_no_memory",
     "job_queue QueueState::new": "a_state_that_finds_no_memory",
     "job_queue QueueState::starting_at": "a_state_that_finds_no_memory",
+    "model_room Room::new": "a_room_that_finds_no_memory",
+    "model_room play": "a_room_that_finds_no_memory",
     "running_atomic Atomic::new": "larger_objects_that_find_no_memory",
     "running_barrier Barrier::new": "locks_that_find_no_memory",
     "running_condvar ConditionVariable::new": "larger_objects_that_find_no_memory",
@@ -33,7 +35,8 @@ TESTED = {
     "sleeping_guarded SleepingGuarded::new": "objects_that_find_no_memory",
     "sleeping_monitor SleepingMonitor::new": "objects_that_find_no_memory",
     "sleeping_mutex SleepingMutex::new": "objects_that_find_no_memory",
-    "sleeping_rw_value RwValueHandle::split_into": "handles_that_find_no_memory",
+    "sleeping_queue SleepingQueue::new": "a_queue_for_sleepers_that_finds_no_memory",
+    "sleeping_rw_reader SleepingRwReader::new": "objects_that_find_no_memory",
     "sleeping_rw_value SleepingRwValue::new": "objects_that_find_no_memory",
     "sleeping_semaphore SleepingSemaphore::new": "objects_that_find_no_memory",
     "sync_play play_text": "texts_that_find_no_memory",
@@ -41,6 +44,9 @@ TESTED = {
     "sync_play run": "texts_that_find_no_memory",
     "sync_steps Machine::new": "a_machine_that_finds_no_memory",
     "sync_steps play": "events_that_find_no_memory",
+    "text_room open": "texts_of_several_that_find_no_memory",
+    "text_room play_text": "texts_of_several_that_find_no_memory",
+    "text_room run": "texts_of_several_that_find_no_memory",
     # What the running types are made of: each `new` above is one of these.
     "running_passes Words::new": "larger_objects_that_find_no_memory",
     "running_model Stage::new": "locks_that_find_no_memory",
@@ -49,7 +55,7 @@ TESTED = {
 
 # The libraries of the programs, whose calls take memory of the system alone. `./test streams` sweeps the limit of each program.
 SWEPT = {
-    *("text_lines", "text_advice", "text_trace", "explore_search", "explore_complete", "explore_text", "explore_client"),
+    *("text_lines", "text_advice", "text_trace", "explore_search", "explore_complete", "explore_stuck", "explore_text", "explore_client"),
     *("draw_markup", "draw_story", "draw_layout", "draw_parts", "draw_text"),
 }
 

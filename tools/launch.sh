@@ -2,8 +2,8 @@
 #
 # Sourced, with the call's arguments, by a script at the top that bears the program's name and sets `top`, the repository's folder,
 # `crate`, the program's, and `does`, what it does, in a few words; `reads` and `usage`, where it reads no schedule text: what it
-# reads, and the file that says how that is written; `arguments`, where it is called with some; `also`, a further form of call; and
-# `advises`, a program that says more of a text with a fault.
+# reads, and the file that says how that is written; `arguments`, where it is called with some; `takes`, an argument that a caller may give
+# it; `also`, a further form of call; and `advises`, a program that says more of a text with a fault.
 #
 # A program that stands is run, and one whose sources are no longer those that it was built of is built again first. Where none has been
 # built, the sources are run as they are, unproved, by `rt try`: each call takes up to a minute, and a build many.
@@ -15,6 +15,7 @@ name=$(basename -- "$0")
 reads=${reads-a schedule text}
 usage=${usage-tools/texts.txt}
 [[ -v arguments ]] || arguments=()
+given=()
 folder=$top/crates/$crate
 program=$folder/out/$crate
 # The sums of the sources and of the program that was built of them. `rt ci` removes it with all that `out` has.
@@ -146,7 +147,7 @@ play_unproved() {
     local said=() line
     need_rt
     say "not built yet: each call runs the sources, unproved, in up to a minute; ./$name --build proves and builds the program, once"
-    { { cd -- "$folder" && rt try; } 2>&1 >&3 3>&- | readarray -t said; } 3>&1 || true
+    { { cd -- "$folder" && rt try ${given:+-- "${given[@]}"}; } 2>&1 >&3 3>&- | readarray -t said; } 3>&1 || true
     if ((${#said[@]} == 0)) || [[ ! ${said[-1]} =~ ^run=ended\ status=([0-9]+) ]]; then
         printf '%s\n' "${said[@]}" | { grep -v '^|' || true; } | tail -n 5 >&2 || true
         fail "that gave no answer within its limits (a minute, 1 MiB of output): build the program first, by ./$name --build"
@@ -193,6 +194,10 @@ tell_usage() {
 cd -- "$top" || fail "$top cannot be entered"
 case "$#${1-}" in
     0 | 1--build) ;;
+    1"${takes---build}")
+        given=("$1")
+        arguments+=("$1")
+        ;;
     1-h | 1--help)
         tell_usage
         exit 0

@@ -17,13 +17,13 @@ test_copy() {
     sed -i 's/^running_passes .*/running_passes: mine/' "$to/crates.txt"
     attempt tools/copy-library "$to" lazy_lock
     printf 'copy-library: left as it stands, though it differs: %s\n' crates/model_once/src/lib.rt crates/running_once/src/shares.rt "crates.txt: running_passes: mine" >"$room/wanted_err"
-    echo "copied: 9 crates; there already: 6" >"$room/wanted_out"
+    echo "copied: 4 crates; there already: 6" >"$room/wanted_out"
     judge "another beside what was changed" 1 "$room/wanted_out" "$room/wanted_err"
     attempt tools/copy-library "$to" mutexes
     judge_line "no lock" 1 "" "copy-library: there is no crate mutexes, nor one of a lock of that name"
     put_first "$room/first"
     attempt cat -- "$room/copied"
-    judge_line "a guarded value with handles" 0 "copied: 20 crates; there already: 0" ""
+    judge_line "a guarded value with handles" 0 "copied: 17 crates; there already: 0" ""
     check_plain
     limit=1200 attempt env -C "$room/first/crates/my_counter" rt try
     if ((status == 0)) && [[ $(<"$room/out") == 4000 ]]; then

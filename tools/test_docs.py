@@ -146,7 +146,9 @@ def leads(page, link):
     file = os.path.normpath(os.path.join(os.path.dirname(page), path)) if path else page
     # What else is wrong with the playground, ./test pages tells.
     if file == PLAYGROUND:
-        return None if not anchor or f"#{anchor}" in map(address, map(read, glob.glob("examples/*.txt"))) else f"it links to {link}, and no example has this text"
+        kind = anchor.split("/")[0]
+        texts = glob.glob("examples/*.txt" if kind == "play" else "examples/explore/*.txt")
+        return None if not anchor or f"#play/{anchor.partition(chr(47))[2]}" in map(address, map(read, texts)) else f"it links to {link}, and no example has this text"
     if not os.path.exists(file):
         return f"it links to {link}, which is not there"
     if anchor and (file not in TEXTS or anchor not in anchors(file)):
@@ -161,6 +163,11 @@ for text in sorted(glob.glob("examples/*.txt")):
         report(stem, quoted("README.md", stem))
     if text in TEXTS["docs/TRACE.md"]:
         report(stem, quoted("docs/TRACE.md", stem, ("trace",)))
+
+for block in blocks("docs/TEXT.md"):
+    if block.startswith("    parties 2\n"):
+        case = " / ".join(line.strip() for line in block.splitlines())
+        report("docs/TEXT.md", None if f"\n{case}\n" in read("texts/sync-play/room.txt") else "no case has its text of several objects")
 
 for text in sorted(glob.glob("examples/explore/*.txt")):
     report(text, asked(text.removesuffix(".txt")))

@@ -1,5 +1,6 @@
 # Each case of the tables of texts/PROGRAM, which tools/played.py reads: a text, or a question, with all that the program makes of it. And
-# those of texts/rust, with what the Rust crate makes of them, and the port.
+# those of texts/rust, with what the Rust crate makes of them, and the port. And texts of several objects that are made at random print what
+# tools/brute.py says, which knows nothing but the pages.
 test_texts() {
     local folder program table
     for folder in texts/*; do
@@ -14,6 +15,10 @@ test_texts() {
             for table in "$folder"/*; do
                 play_table "$table" tools/played.py "$program"
             done
+        fi
+        if [[ $program == sync-play ]] && is_built "$program"; then
+            attempt python3 tools/brute.py --texts 300 1
+            judge_line "tools/brute.py, of texts" 0 "300 texts, 0 wrong" ""
         fi
     done
 }

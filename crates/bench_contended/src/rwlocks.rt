@@ -8,6 +8,7 @@ use crate::work::Work;
 use iceoryx2_pal_concurrency_sync::strategy::rwlock::{RwLockWriterPreference, RwWriterPass};
 use iceoryx2_pal_concurrency_sync::{Sleepers, WaitResult, WaitWord};
 use running_rw_value::RwLock as RwValue;
+use running_rw_writer::RwWriterWord;
 use std::alloc::{AllocError, Global};
 use std::sync::{RwLock, Wait};
 
@@ -167,9 +168,9 @@ fn write_number<R: Wait>(rt: &R, number: &SharedNumber, pass: &mut RwWriterPass,
     match number.number.with_write(
         rt,
         pass,
-        |word: &WaitWord, seen: &u64| number.writers.sleep(rt, word, *seen),
-        |_: &WaitWord| number.writers.wake_one(),
-        |_: &WaitWord| number.readers.wake_all(),
+        |word: &RwWriterWord, seen: &u64| number.writers.sleep(rt, word, *seen),
+        |_: &RwWriterWord| number.writers.wake_one(),
+        |_: &RwWriterWord| number.readers.wake_all(),
         |value| {
             work.go();
             *value = value.wrapping_add(1);
@@ -188,8 +189,8 @@ fn read_number<R: Wait>(rt: &R, number: &SharedNumber, pass: &mut RwWriterPass, 
     match number.number.with_read(
         rt,
         pass,
-        |word: &WaitWord, seen: &u64| number.readers.sleep(rt, word, *seen),
-        |_: &WaitWord| number.writers.wake_one(),
+        |word: &RwWriterWord, seen: &u64| number.readers.sleep(rt, word, *seen),
+        |_: &RwWriterWord| number.writers.wake_one(),
         |_| work.go(),
     ) {
         WaitResult::Success(()) => {}

@@ -18,7 +18,7 @@ mod rwwriter;
 mod semaphore;
 mod spin_lock;
 
-use iceoryx2_pal_concurrency_sync::{WaitAction, WaitWord};
+use iceoryx2_pal_concurrency_sync::WaitAction;
 use std::alloc::{AllocError, Global};
 use std::sync::Wait;
 
@@ -229,7 +229,7 @@ trait Operation {
 
 /// A wait closure that does nothing.
 #[inline(always)]
-fn go_on(_word: &WaitWord, _seen: &u64) -> WaitAction {
+fn go_on<W>(_word: &W, _seen: &u64) -> WaitAction {
     WaitAction::Continue
 }
 

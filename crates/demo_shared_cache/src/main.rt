@@ -3,7 +3,7 @@
 
 ghost use Rattle.std.specs.Prelude.{◌≡◌, ◌+◌};
 
-use sleeping_rw_value::{RwValueHandle, SleepingRwValue};
+use sleeping_rw_value::{Handle, RwValueHandle, SleepingRwValue};
 use std::alloc::{AllocError, Global};
 use std::sync::Wait;
 use std::sync::atomic::{AtomicU64, Ordering};

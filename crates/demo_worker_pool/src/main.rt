@@ -4,11 +4,8 @@
 //! The workers take numbers until the queue is closed and empty, and sleep while it is empty and open.
 #![tactic(auto)]
 
-ghost use Rattle.job_queue.specs.QueueShown.{IsQueuePass, HasStayed};
-
-use job_queue::{JobQueue, PutFault, QueuePass, Taken};
-use running_closures::{Sleepers, wake_nobody};
-use running_tallies::WaitWord;
+use job_queue::PutFault;
+use sleeping_queue::{Handle, QueueHandle, SleepingQueue};
 use std::alloc::{AllocError, Global};
 use std::sync::Wait;
 use std::thread::Threads;
@@ -31,16 +28,13 @@ enum Role {
 /// A party of the pool, which goes to a thread of its own.
 #[derive(Drop)]
 struct Party<'q> {
-    queue: &'q JobQueue<u64>,
-    sleepers: &'q Sleepers,
-    pass: QueuePass,
+    queue: QueueHandle<'q, u64>,
     role: Role,
-    ghost own: { IsQueuePass queue.now pass },
 }
 
 fn main(rt: HostRuntime) -> io::Result<()> {
-    let (queue, pass) = JobQueue::new(rt.alloc(), PLACES)?;
-    let squares = square_all(&rt, rt.alloc(), &queue, &Sleepers::new(), pass)?;
+    let (queue, pass) = SleepingQueue::new(rt.alloc(), PLACES)?;
+    let squares = square_all(&rt, rt.alloc(), queue.handle(pass))?;
     let wrong = (0u64..)
         .zip(squares.iter())
         .filter(|(number, done)| **done != (*number, square(*number)))
@@ -52,13 +46,9 @@ fn main(rt: HostRuntime) -> io::Result<()> {
 fn square_all<R: Threads + Wait + Sync>(
     rt: &R,
     alloc: Global,
-    queue: &JobQueue<u64>,
-    sleepers: &Sleepers,
-    pass: QueuePass,
-) -> Result<Squares, AllocError>
-    requires own { IsQueuePass queue.now pass }
-{
-    let parties = parties(alloc, queue, sleepers, pass)?;
+    queue: QueueHandle<'_, u64>,
+) -> Result<Squares, AllocError> {
+    let parties = parties(alloc, queue)?;
     let parts = thread::map_vec(rt, parties, &|party| play(rt, alloc, party))?;
     let mut squares = Vec::new(alloc);
     collect(parts, &mut squares)?;
@@ -78,32 +68,20 @@ fn collect(
 }
 
 /// One that puts, and four workers.
-fn parties<'q>(
+fn parties(
     alloc: Global,
-    queue: &'q JobQueue<u64>,
-    sleepers: &'q Sleepers,
-    pass: QueuePass,
-) -> Result<Vec<Party<'q>, Global>, AllocError>
-    requires own { IsQueuePass queue.now pass }
-{
+    whole: QueueHandle<'_, u64>,
+) -> Result<Vec<Party<'_>, Global>, AllocError> {
+    let (queue, rest) = whole.split();
     let mut parties = Vec::new(alloc);
-    let mut rest = pass;
-    for _ in 0..4u64 {
-        let Ok((pass, other)) = rest.split(queue) else {
-            unreachable!()
-        };
-        rest = other;
+    for queue in rest.split_into(alloc, 4)? {
         parties.push(Party {
             queue,
-            sleepers,
-            pass,
             role: Role::Works,
         })?;
     }
     parties.push(Party {
         queue,
-        sleepers,
-        pass: rest,
         role: Role::Puts,
     })?;
     Ok(parties)
@@ -111,20 +89,14 @@ fn parties<'q>(
 
 /// What a party comes to.
 fn play<R: Wait>(rt: &R, alloc: Global, party: Party) -> Result<Squares, AllocError> {
-    let Party {
-        queue,
-        sleepers,
-        pass,
-        role,
-    } = party;
+    let Party { mut queue, role } = party;
     match role {
         Role::Puts => {
-            let mut pass = pass;
-            let squares = put_all(rt, alloc, queue, sleepers, &mut pass);
-            queue.close(rt, &mut pass, |_: &WaitWord| sleepers.wake_all());
+            let squares = put_all(rt, alloc, &mut queue);
+            queue.close(rt);
             squares
         }
-        Role::Works => work(rt, alloc, queue, sleepers, pass),
+        Role::Works => work(rt, alloc, queue),
     }
 }
 
@@ -132,46 +104,29 @@ fn play<R: Wait>(rt: &R, alloc: Global, party: Party) -> Result<Squares, AllocEr
 fn put_all<R: Wait>(
     rt: &R,
     alloc: Global,
-    queue: &JobQueue<u64>,
-    sleepers: &Sleepers,
-    pass: &mut QueuePass,
-) -> Result<Squares, AllocError>
-    requires own { IsQueuePass queue.now pass.old }
-    ensures stayed { HasStayed pass.old pass.new }
-{
+    queue: &mut QueueHandle<'_, u64>,
+) -> Result<Squares, AllocError> {
     let mut squares = Vec::new(alloc);
     for number in 0..NUMBERS {
-        let put = queue.put(rt, pass, number, |_: &WaitWord| sleepers.wake_one());
-        if let Err(PutFault::Full(number)) = put {
+        if let Err(PutFault::Full(number)) = queue.put(rt, number) {
             squares.push((number, square(number)))?;
         }
     }
     Ok(squares)
 }
 
-/// Squares numbers until the queue is closed and has none. A take wakes nobody, since nobody sleeps until there is room.
+/// Squares numbers until the queue is closed and has none.
 fn work<R: Wait>(
     rt: &R,
     alloc: Global,
-    queue: &JobQueue<u64>,
-    sleepers: &Sleepers,
-    mut pass: QueuePass,
-) -> Result<Squares, AllocError>
-    requires own { IsQueuePass queue.now pass }
-{
+    mut queue: QueueHandle<'_, u64>,
+) -> Result<Squares, AllocError> {
     let mut squares = Vec::new(alloc);
     for _ in rt.forever() {
-        let taken = queue.take(
-            rt,
-            &mut pass,
-            |word: &WaitWord, seen: &u64| sleepers.sleep(rt, word, *seen),
-            wake_nobody,
-        );
-        match taken {
-            Taken::Job { ticket: _, job } => squares.push((job, square(job)))?,
-            Taken::Closed => return Ok(squares),
-            Taken::Empty | Taken::Interrupted => unreachable!(),
-        }
+        let Some((_, job)) = queue.take(rt) else {
+            return Ok(squares);
+        };
+        squares.push((job, square(job)))?;
     }
     unreachable!()
 }

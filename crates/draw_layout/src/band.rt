@@ -1,8 +1,8 @@
-//! What a word of the object held, or an atomic, row by row.
+//! What a word of an object held, or an atomic, row by row.
 use crate::terms::{Shown, band_name, say_value, shown_of};
 use crate::value::DataWords;
 use crate::width::text_width;
-use draw_story::story::Story;
+use draw_story::story::{Story, StoryObject};
 use std::alloc::{AllocError, Global};
 use sync_steps::steps::{Act, Object, Word};
 use text_lines::integer::TextInteger;
@@ -37,8 +37,10 @@ pub enum Colour {
 /// What a word held, or an atomic.
 #[derive(Drop)]
 pub struct Band {
+    /// Of which object, counted from 0.
+    pub object: usize,
     pub shown: Shown,
-    pub name: &'static str,
+    pub name: String,
     pub left: u32,
     pub width: u32,
     pub segments: Vec<Segment>,
@@ -174,17 +176,21 @@ fn add_value<T: TextInteger>(
 fn segments_of<T: Copy>(
     alloc: Global,
     story: &Story<T>,
+    place: usize,
+    object: &StoryObject<T>,
     word: Word,
 ) -> Result<Vec<Segment>, AllocError> {
     let mut segments = Vec::new(alloc);
-    let value = story.opening.get(word);
-    add_word(alloc, &mut segments, &story.object, None, word, value)?;
+    let value = object.opening.get(word);
+    add_word(alloc, &mut segments, &object.object, None, word, value)?;
     for step in &story.steps {
-        if let Some(value) = put_of(&step.event.act, word) {
+        if step.object == place
+            && let Some(value) = put_of(&step.event.act, word)
+        {
             add_word(
                 alloc,
                 &mut segments,
-                &story.object,
+                &object.object,
                 Some(step.row),
                 word,
                 value,
@@ -195,13 +201,20 @@ fn segments_of<T: Copy>(
 }
 
 /// What an atomic held, from the opening on.
-fn values_of<T: TextInteger>(alloc: Global, story: &Story<T>) -> Result<Vec<Segment>, AllocError> {
-    let mut words = DataWords::before(story);
+fn values_of<T: TextInteger>(
+    alloc: Global,
+    story: &Story<T>,
+    place: usize,
+    object: &StoryObject<T>,
+) -> Result<Vec<Segment>, AllocError> {
+    let mut words = DataWords::before(object);
     let mut segments = Vec::new(alloc);
     let mut last = colour_of_words(words, None);
     add_value::<T>(alloc, &mut segments, None, words, last)?;
     for step in &story.steps {
-        if let Some(written) = words.written_by(&step.event.act) {
+        if step.object == place
+            && let Some(written) = words.written_by(&step.event.act)
+        {
             words = written;
             let colour = colour_of_words(words, Some(last));
             add_value::<T>(alloc, &mut segments, Some(step.row), words, colour)?;
@@ -212,7 +225,7 @@ fn values_of<T: TextInteger>(alloc: Global, story: &Story<T>) -> Result<Vec<Segm
 }
 
 /// How wide a band has to be, so that all that it shows has room.
-fn band_width(name: &str, segments: &[Segment]) -> u32 {
+fn band_width(name: &String, segments: &[Segment]) -> u32 {
     let mut widest = text_width(name);
     for segment in segments {
         widest = widest.max(text_width(&segment.term));
@@ -224,11 +237,28 @@ fn band_width(name: &str, segments: &[Segment]) -> u32 {
 fn all_shown<T: TextInteger>(
     alloc: Global,
     story: &Story<T>,
+    place: usize,
+    object: &StoryObject<T>,
     shown: Shown,
 ) -> Result<Vec<Segment>, AllocError> {
     match shown {
-        Shown::Word(word) => segments_of(alloc, story, word),
-        Shown::Value => values_of(alloc, story),
+        Shown::Word(word) => segments_of(alloc, story, place, object, word),
+        Shown::Value => values_of(alloc, story, place, object),
+    }
+}
+
+/// How a band is named: by what it shows, behind the object's name, if it has one.
+fn name_of_band<T>(
+    alloc: Global,
+    object: &StoryObject<T>,
+    shown: Shown,
+) -> Result<String, AllocError> {
+    let name = object.name.as_str();
+    let what = band_name(&object.object, shown);
+    if name.is_empty() {
+        String::from_str(alloc, what)
+    } else {
+        format!(in alloc; "{name}: {what}")
     }
 }
 
@@ -236,13 +266,16 @@ fn all_shown<T: TextInteger>(
 fn band_of<T: TextInteger>(
     alloc: Global,
     story: &Story<T>,
+    place: usize,
+    object: &StoryObject<T>,
     shown: Shown,
     left: u32,
 ) -> Result<Band, AllocError> {
-    let segments = all_shown(alloc, story, shown)?;
-    let name = band_name(&story.object, shown);
-    let width = band_width(name, &segments);
+    let segments = all_shown(alloc, story, place, object, shown)?;
+    let name = name_of_band(alloc, object, shown)?;
+    let width = band_width(&name, &segments);
     Ok(Band {
+        object: place,
         shown,
         name,
         left,
@@ -256,16 +289,34 @@ fn add_band<T: TextInteger>(
     alloc: Global,
     bands: &mut Vec<Band>,
     story: &Story<T>,
+    place: usize,
+    object: &StoryObject<T>,
     shown: Shown,
     left: u32,
 ) -> Result<u32, AllocError> {
-    let band = band_of(alloc, story, shown, left)?;
+    let band = band_of(alloc, story, place, object, shown, left)?;
     let next = left.saturating_add(band.width).saturating_add(10);
     bands.push(band)?;
     Ok(next)
 }
 
-/// The bands, from this place on.
+/// Adds the bands of an object, from this place on.
+fn add_bands<T: TextInteger>(
+    alloc: Global,
+    bands: &mut Vec<Band>,
+    story: &Story<T>,
+    place: usize,
+    object: &StoryObject<T>,
+    left: u32,
+) -> Result<u32, AllocError> {
+    let mut left = left;
+    for shown in shown_of(&object.object) {
+        left = add_band(alloc, bands, story, place, object, *shown, left)?;
+    }
+    Ok(left)
+}
+
+/// The bands, from this place on, object by object.
 pub fn bands_of<T: TextInteger>(
     alloc: Global,
     story: &Story<T>,
@@ -273,8 +324,8 @@ pub fn bands_of<T: TextInteger>(
 ) -> Result<Vec<Band>, AllocError> {
     let mut bands = Vec::new(alloc);
     let mut left = left;
-    for shown in shown_of(&story.object) {
-        left = add_band(alloc, &mut bands, story, *shown, left)?;
+    for place in 0..story.objects.len() {
+        left = add_bands(alloc, &mut bands, story, place, &story.objects[place], left)?;
     }
     Ok(bands)
 }

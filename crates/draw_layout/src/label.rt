@@ -1,7 +1,7 @@
 //! A step in words, and how it is marked.
 use crate::terms::{name_of, say_value};
 use crate::value::{DataWords, ends_a_value};
-use draw_story::story::{Story, StoryStep};
+use draw_story::story::{Story, StoryObject, StoryStep};
 use std::alloc::{AllocError, Global};
 use sync_play::print::print_answer;
 use sync_steps::WaitAction;
@@ -187,12 +187,13 @@ fn say_change<T: Copy>(
 fn say_whole_value<T: TextInteger>(
     out: &mut String,
     story: &Story<T>,
+    object: &StoryObject<T>,
     step: &StoryStep<T>,
 ) -> Result<(), AllocError> {
     if !ends_a_value(&step.event.act) {
         return Ok(());
     }
-    let value: T = DataWords::after(story, step.row).value();
+    let value: T = DataWords::after(story, step.object, object, step.row).value();
     say_choice(out, ": value ", value)
 }
 
@@ -211,8 +212,10 @@ fn say_step<T: TextInteger>(
     story: &Story<T>,
     step: &StoryStep<T>,
 ) -> Result<(), AllocError> {
-    say_act(out, &story.object, &step.event.act)?;
-    say_whole_value(out, story, step)?;
+    if let Some(object) = story.objects.get(step.object) {
+        say_act(out, &object.object, &step.event.act)?;
+        say_whole_value(out, story, object, step)?;
+    }
     say_times(out, step.count)
 }
 

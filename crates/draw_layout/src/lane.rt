@@ -3,7 +3,7 @@ ghost use Rattle.std.specs.Prelude.{◌<◌, ◌^◌, IfOk};
 
 use crate::label::{Reach, Tone, label_of, outcome_of, reach_of, tone_of};
 use crate::width::text_width;
-use draw_story::story::{Story, StoryStep};
+use draw_story::story::{Story, StoryObject, StoryStep};
 use model_events::hold::HoldKind;
 use std::alloc::{AllocError, Global};
 use sync_steps::steps::{Act, Then};
@@ -28,22 +28,40 @@ impl Span {
     }
 }
 
-/// A hold of a party.
+/// A stand at a closure, in a call of an object.
+#[derive(Clone, Copy)]
+pub struct Stand {
+    pub object: usize,
+    pub span: Span,
+}
+
+/// A hold of an object.
 #[derive(Clone, Copy)]
 pub struct Hold {
+    pub object: usize,
     pub kind: HoldKind,
     pub span: Span,
 }
 
-/// What a party did. On its left is the place for its holds, 8 wide, and then comes the box of each call.
+/// Where on its lane a party's holds of an object stand.
+#[derive(Clone, Copy)]
+pub struct Bar {
+    pub object: usize,
+    pub left: u32,
+}
+
+/// What a party did. On its left is the place for its holds, and then comes the box of each call.
 #[derive(Drop)]
 pub struct Lane {
     pub party: usize,
     pub left: u32,
+    /// How wide the place for its holds is.
+    pub bars_width: u32,
+    pub bars: Vec<Bar>,
     /// How wide the boxes are.
     pub width: u32,
     pub calls: Vec<Span>,
-    pub stands: Vec<Span>,
+    pub stands: Vec<Stand>,
     pub holds: Vec<Hold>,
     /// The rows of what refused calls saw last.
     pub sights: Vec<u32>,
@@ -57,6 +75,8 @@ impl Lane {
         Lane {
             party,
             left,
+            bars_width: 0,
+            bars: Vec::new(alloc),
             width,
             calls: Vec::new(alloc),
             stands: Vec::new(alloc),
@@ -70,7 +90,7 @@ impl Lane {
     fn add<T: Copy>(&mut self, step: &StoryStep<T>) -> Result<(), AllocError> {
         add_call(&mut self.calls, step)?;
         add_stand(&mut self.stands, step)?;
-        add_hold(&mut self.holds, step.hold, step.row)?;
+        add_hold(&mut self.holds, step.object, step.hold, step.row)?;
         self.add_sight(step)
     }
 
@@ -89,7 +109,7 @@ impl Lane {
     pub fn start(&self) -> u64
         ensures { result < 2 ^ 34 }
     {
-        u64::from(self.left) + 8
+        u64::from(self.left) + u64::from(self.bars_width)
     }
 
     /// Where they end.
@@ -101,9 +121,21 @@ impl Lane {
 
     /// Where the marks of its steps stand.
     pub fn middle(&self) -> u64
+        ensures { result < 2 ^ 35 }
+    {
+        self.start() + 14
+    }
+
+    /// Where its holds of an object stand.
+    pub fn bar_of(&self, object: usize) -> u64
         ensures { result < 2 ^ 34 }
     {
-        u64::from(self.left) + 22
+        for bar in &self.bars {
+            if bar.object == object {
+                return u64::from(self.left) + u64::from(bar.left);
+            }
+        }
+        u64::from(self.left)
     }
 }
 
@@ -197,28 +229,47 @@ fn add_call<T: Copy>(calls: &mut Vec<Span>, step: &StoryStep<T>) -> Result<(), A
 }
 
 /// Ends a stand at a closure, and begins one where the call stands after a step.
-fn add_stand<T: Copy>(stands: &mut Vec<Span>, step: &StoryStep<T>) -> Result<(), AllocError> {
-    end_last(stands, step.row);
+fn add_stand<T: Copy>(stands: &mut Vec<Stand>, step: &StoryStep<T>) -> Result<(), AllocError> {
+    if let Some(stand) = stands.last_mut() {
+        stand.span.end(step.row);
+    }
     match step.event.then {
-        Then::Waits(_) | Then::Chooses(_) => begin(stands, step.row),
+        Then::Waits(_) | Then::Chooses(_) => {
+            stands.push(Stand {
+                object: step.object,
+                span: Span {
+                    first: step.row,
+                    last: None,
+                },
+            })?;
+            Ok(())
+        }
         Then::GoesOn | Then::Answers(_) => Ok(()),
     }
 }
 
-/// Whether the last of these holds is still there.
-fn is_held(holds: &[Hold]) -> bool {
-    match holds.last() {
-        Some(hold) => hold.span.last.is_none(),
-        None => false,
+/// Whether one of these holds of an object is still there.
+fn is_held(holds: &[Hold], object: usize) -> bool {
+    for hold in holds {
+        if hold.object == object && hold.span.last.is_none() {
+            return true;
+        }
     }
+    false
 }
 
-/// Begins a hold at a row, where the party has none.
-fn begin_hold(holds: &mut Vec<Hold>, kind: HoldKind, row: u32) -> Result<(), AllocError> {
-    if is_held(holds) {
+/// Begins a hold of an object at a row, where the party has none.
+fn begin_hold(
+    holds: &mut Vec<Hold>,
+    object: usize,
+    kind: HoldKind,
+    row: u32,
+) -> Result<(), AllocError> {
+    if is_held(holds, object) {
         return Ok(());
     }
     holds.push(Hold {
+        object,
         kind,
         span: Span {
             first: row,
@@ -228,19 +279,26 @@ fn begin_hold(holds: &mut Vec<Hold>, kind: HoldKind, row: u32) -> Result<(), All
     Ok(())
 }
 
-/// Ends the last of these holds at a row, if it is still there.
-fn end_hold(holds: &mut Vec<Hold>, row: u32) {
-    if let Some(hold) = holds.last_mut() {
-        hold.span.end(row);
+/// Ends the hold of an object at a row, if it is still there.
+fn end_hold(holds: &mut Vec<Hold>, object: usize, row: u32) {
+    for hold in holds.iter_mut() {
+        if hold.object == object {
+            hold.span.end(row);
+        }
     }
 }
 
-/// Begins a hold or ends it, by what the party holds after a step.
-fn add_hold(holds: &mut Vec<Hold>, held: Option<HoldKind>, row: u32) -> Result<(), AllocError> {
+/// Begins a hold of an object or ends it, by what the party holds of it after a step.
+fn add_hold(
+    holds: &mut Vec<Hold>,
+    object: usize,
+    held: Option<HoldKind>,
+    row: u32,
+) -> Result<(), AllocError> {
     match held {
-        Some(kind) => begin_hold(holds, kind, row),
+        Some(kind) => begin_hold(holds, object, kind, row),
         None => {
-            end_hold(holds, row);
+            end_hold(holds, object, row);
             Ok(())
         }
     }
@@ -254,16 +312,60 @@ fn seen_after<T: Copy>(seen: Option<u32>, step: &StoryStep<T>) -> Option<u32> {
     }
 }
 
+/// Whether a party ever holds an object.
+fn ever_holds<T: Copy>(steps: &[StoryStep<T>], party: usize, object: usize) -> bool {
+    for step in steps {
+        if step.event.party == party && step.object == object && step.hold.is_some() {
+            return true;
+        }
+    }
+    false
+}
+
+impl Lane {
+    /// Makes room for the holds of an object, behind its name, if it has one.
+    fn add_bar<T: Copy>(
+        &mut self,
+        place: usize,
+        object: &StoryObject<T>,
+    ) -> Result<(), AllocError> {
+        let name = if object.name.is_empty() {
+            0
+        } else {
+            text_width(&object.name).saturating_add(4)
+        };
+        let left = self.bars_width.saturating_add(name);
+        self.bars.push(Bar {
+            object: place,
+            left,
+        })?;
+        self.bars_width = left.saturating_add(8);
+        Ok(())
+    }
+
+    /// Makes room for what the party ever holds; for something at least.
+    fn add_bars<T: Copy>(&mut self, story: &Story<T>) -> Result<(), AllocError> {
+        for place in 0..story.objects.len() {
+            if ever_holds(&story.steps, self.party, place) {
+                self.add_bar(place, &story.objects[place])?;
+            }
+        }
+        self.bars_width = self.bars_width.max(8);
+        Ok(())
+    }
+}
+
 /// The lane of a party whose boxes are this wide, from this place on.
 fn lane_of<T: Copy>(
     alloc: Global,
-    steps: &[StoryStep<T>],
+    story: &Story<T>,
     party: usize,
     left: u32,
     width: u32,
 ) -> Result<Lane, AllocError> {
     let mut lane = Lane::empty(alloc, party, left, width);
-    for step in steps {
+    lane.add_bars(story)?;
+    for step in &story.steps {
         if step.event.party == party {
             lane.add(step)?;
         }
@@ -275,13 +377,22 @@ fn lane_of<T: Copy>(
 fn add_lane<T: Copy>(
     alloc: Global,
     lanes: &mut Vec<Lane>,
-    steps: &[StoryStep<T>],
+    story: &Story<T>,
     party: usize,
     left: u32,
     width: u32,
 ) -> Result<u32, AllocError> {
-    lanes.push(lane_of(alloc, steps, party, left, width)?)?;
-    Ok(left.saturating_add(width).saturating_add(28))
+    let lane = lane_of(alloc, story, party, left, width)?;
+    let next = right_of_lane(&lane).saturating_add(20);
+    lanes.push(lane)?;
+    Ok(next)
+}
+
+/// Where the boxes of a lane end.
+fn right_of_lane(lane: &Lane) -> u32 {
+    lane.left
+        .saturating_add(lane.bars_width)
+        .saturating_add(lane.width)
 }
 
 /// Adds the lane of a party, if it makes a step.
@@ -293,7 +404,7 @@ fn add_party<T: TextInteger>(
     left: u32,
 ) -> Result<u32, AllocError> {
     match box_width(alloc, story, party)? {
-        Some(width) => add_lane(alloc, lanes, &story.steps, party, left, width),
+        Some(width) => add_lane(alloc, lanes, story, party, left, width),
         None => Ok(left),
     }
 }
@@ -315,7 +426,7 @@ pub fn lanes_of<T: TextInteger>(
 /// Where the last lane ends, with the room that follows it.
 pub fn lanes_right(lanes: &[Lane], left: u32) -> u32 {
     match lanes.last() {
-        Some(lane) => lane.left.saturating_add(lane.width).saturating_add(20),
+        Some(lane) => right_of_lane(lane).saturating_add(12),
         None => left,
     }
 }

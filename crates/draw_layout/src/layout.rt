@@ -109,12 +109,12 @@ impl Layout {
         self.lanes.iter().find(|lane| lane.party == party)
     }
 
-    /// Where the band of a word ends.
-    pub fn right_of(&self, word: Word) -> u64
+    /// Where the band of a word of an object ends.
+    pub fn right_of(&self, object: usize, word: Word) -> u64
         ensures { result < 2 ^ 40 }
     {
         for band in &self.bands {
-            if band.shown == shown_at(word) {
+            if band.object == object && band.shown == shown_at(word) {
                 return u64::from(band.left) + u64::from(band.width);
             }
         }

@@ -1,5 +1,5 @@
 //! The value of an atomic, which its two data words have together.
-use draw_story::story::Story;
+use draw_story::story::{Story, StoryObject};
 use sync_steps::steps::{Act, Word};
 use text_lines::integer::TextInteger;
 
@@ -14,10 +14,10 @@ pub struct DataWords {
 
 impl DataWords {
     /// Those before the first step.
-    pub fn before<T>(story: &Story<T>) -> DataWords {
+    pub fn before<T>(object: &StoryObject<T>) -> DataWords {
         DataWords {
-            low: story.opening.low,
-            high: story.opening.high,
+            low: object.opening.low,
+            high: object.opening.high,
             is_half: false,
         }
     }
@@ -45,11 +45,17 @@ impl DataWords {
         }
     }
 
-    /// Those after a row of the story.
-    pub fn after<T: Copy>(story: &Story<T>, row: u32) -> DataWords {
-        let mut words = DataWords::before(story);
+    /// Those of an object, by its place, after a row of the story.
+    pub fn after<T: Copy>(
+        story: &Story<T>,
+        place: usize,
+        object: &StoryObject<T>,
+        row: u32,
+    ) -> DataWords {
+        let mut words = DataWords::before(object);
         for step in &story.steps {
-            if step.row <= row
+            if step.object == place
+                && step.row <= row
                 && let Some(written) = words.written_by(&step.event.act)
             {
                 words = written;

@@ -1,4 +1,4 @@
-//! Draws what the words of the object held.
+//! Draws what the words of the objects held.
 use crate::shape::{put_text, put_titled, rect};
 use draw_layout::band::{Band, Colour, Segment};
 use draw_layout::layout::{Layout, top_of};
@@ -50,7 +50,7 @@ fn draw_band(
     band: &Band,
 ) -> Result<(), AllocError> {
     let middle = u64::from(band.left) + u64::from(band.width) / 2;
-    put_text(alloc, picture, "soft mid", middle, 22, band.name)?;
+    put_text(alloc, picture, "soft mid", middle, 22, band.name.as_str())?;
     for segment in &band.segments {
         draw_segment(alloc, picture, layout, band, segment)?;
     }

@@ -38,7 +38,7 @@ fn draw_columns<T>(
     layout: &Layout,
 ) -> Result<(), AllocError> {
     draw_schedule(alloc, picture, story, layout)?;
-    draw_lanes(alloc, picture, layout)?;
+    draw_lanes(alloc, picture, story, layout)?;
     draw_bands(alloc, picture, layout)
 }
 

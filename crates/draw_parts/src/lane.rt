@@ -4,6 +4,7 @@ use draw_layout::lane::{Hold, Lane, Span};
 use draw_layout::layout::{Layout, top_of};
 use draw_markup::markup::Markup;
 use draw_markup::name::Key;
+use draw_story::story::Story;
 use model_events::hold::HoldKind;
 use std::alloc::{AllocError, Global};
 
@@ -85,17 +86,48 @@ fn draw_hold(
     picture: &mut Markup,
     layout: &Layout,
     lane: &Lane,
+    name: &str,
     hold: &Hold,
 ) -> Result<(), AllocError> {
-    let (class, title) = match hold.kind {
-        HoldKind::Write => ("writer", "holds, alone"),
-        HoldKind::Read => ("reader", "holds, to read"),
+    let (class, how) = match hold.kind {
+        HoldKind::Write => ("writer", "alone"),
+        HoldKind::Read => ("reader", "to read"),
     };
+    let title = said_of(alloc, name, how)?;
+    let left = lane.bar_of(hold.object);
     let top = top_of(hold.span.first) + 8;
     let bottom = layout.bottom_of(&hold.span, 8);
     let height = bottom.saturating_sub(top);
-    let bar = rect(alloc, class, u64::from(lane.left), top, 5, height)?.at(Key::Rounding, 2)?;
-    put_titled(alloc, picture, bar, title)
+    let bar = rect(alloc, class, left, top, 5, height)?.at(Key::Rounding, 2)?;
+    put_titled(alloc, picture, bar, title.as_str())?;
+    if name.is_empty() {
+        return Ok(());
+    }
+    put_text(
+        alloc,
+        picture,
+        "soft end",
+        left.saturating_sub(4),
+        top + 8,
+        name,
+    )
+}
+
+/// That a party holds something, of this name, if it has one.
+fn said_of(alloc: Global, name: &str, how: &str) -> Result<String, AllocError> {
+    if name.is_empty() {
+        format!(in alloc; "holds, {how}")
+    } else {
+        format!(in alloc; "holds {name}, {how}")
+    }
+}
+
+/// The name of an object; one alone has none.
+fn name_of<T>(story: &Story<T>, object: usize) -> &str {
+    match story.objects.get(object) {
+        Some(object) => object.name.as_str(),
+        None => "",
+    }
 }
 
 /// Draws a ring round what a refused call saw last.
@@ -121,21 +153,23 @@ fn draw_calls(
         draw_call(alloc, picture, layout, lane, call)?;
     }
     for stand in &lane.stands {
-        draw_stand(alloc, picture, layout, lane, stand)?;
+        draw_stand(alloc, picture, layout, lane, &stand.span)?;
     }
     Ok(())
 }
 
 /// Draws a party's calls, stands, holds and sights.
-fn draw_spans(
+fn draw_spans<T>(
     alloc: Global,
     picture: &mut Markup,
+    story: &Story<T>,
     layout: &Layout,
     lane: &Lane,
 ) -> Result<(), AllocError> {
     draw_calls(alloc, picture, layout, lane)?;
     for hold in &lane.holds {
-        draw_hold(alloc, picture, layout, lane, hold)?;
+        let name = name_of(story, hold.object);
+        draw_hold(alloc, picture, layout, lane, name, hold)?;
     }
     for row in &lane.sights {
         draw_sight(alloc, picture, lane, *row)?;
@@ -144,12 +178,17 @@ fn draw_spans(
 }
 
 /// Draws the lanes, and on them what the parties did.
-pub fn draw_lanes(alloc: Global, picture: &mut Markup, layout: &Layout) -> Result<(), AllocError> {
+pub fn draw_lanes<T>(
+    alloc: Global,
+    picture: &mut Markup,
+    story: &Story<T>,
+    layout: &Layout,
+) -> Result<(), AllocError> {
     for lane in &layout.lanes {
         draw_lane(alloc, picture, layout, lane)?;
     }
     for lane in &layout.lanes {
-        draw_spans(alloc, picture, layout, lane)?;
+        draw_spans(alloc, picture, story, layout, lane)?;
     }
     Ok(())
 }

@@ -1,27 +1,28 @@
 //! The signs that a picture uses.
 use crate::legend::{SIGNS, Sign};
 use draw_layout::label::{Mark, mark_of, reach_of};
-use draw_layout::lane::{Hold, Lane, Span};
+use draw_layout::lane::{Hold, Lane, Span, Stand};
 use draw_layout::layout::Layout;
 use draw_story::story::{Story, StoryStep};
 use model_events::event::Act;
 use model_events::hold::HoldKind;
 use std::alloc::{AllocError, Global};
 
-/// Whether one of these spans goes on at a row, begun before it.
-fn covers(spans: &[Span], row: u32) -> bool {
-    for span in spans {
-        if span.first < row && row <= span.last.unwrap_or(u32::MAX) {
+/// Whether one of these stands in a call of an object goes on at a row, begun before it.
+fn covers(stands: &[Stand], object: usize, row: u32) -> bool {
+    for stand in stands {
+        let span = stand.span;
+        if stand.object == object && span.first < row && row <= span.last.unwrap_or(u32::MAX) {
             return true;
         }
     }
     false
 }
 
-/// Whether some party stands at a closure at a row.
-pub fn is_anybody_at(layout: &Layout, row: u32) -> bool {
+/// Whether some party stands at a closure of an object at a row.
+pub fn is_anybody_at(layout: &Layout, object: usize, row: u32) -> bool {
     for lane in &layout.lanes {
-        if covers(&lane.stands, row) {
+        if covers(&lane.stands, object, row) {
             return true;
         }
     }
@@ -46,8 +47,8 @@ fn is_at_step<T: Copy>(step: &StoryStep<T>, layout: &Layout, sign: Sign) -> bool
         Sign::Done => mark == Mark::Done,
         Sign::Failed => mark == Mark::Failed,
         Sign::Written => mark == Mark::Written,
-        Sign::Wake => mark == Mark::Wake && is_anybody_at(layout, step.row),
-        Sign::WakeOfNobody => mark == Mark::Wake && !is_anybody_at(layout, step.row),
+        Sign::Wake => mark == Mark::Wake && is_anybody_at(layout, step.object, step.row),
+        Sign::WakeOfNobody => mark == Mark::Wake && !is_anybody_at(layout, step.object, step.row),
         _ => false,
     }
 }

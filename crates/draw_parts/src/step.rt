@@ -54,6 +54,7 @@ fn draw_reach(
     alloc: Global,
     picture: &mut Markup,
     layout: &Layout,
+    object: usize,
     reach: Reach,
     x: u64,
     y: u64,
@@ -61,7 +62,7 @@ fn draw_reach(
     requires { x < 2 ^ 40 }
 {
     let class = if reach.writes { "write" } else { "read" };
-    let to = layout.right_of(reach.word) + 2;
+    let to = layout.right_of(object, reach.word) + 2;
     put_shape(picture, line(alloc, class, (x, y), (to, y))?)
 }
 
@@ -139,9 +140,9 @@ fn draw_act<T: Copy>(
     let x = lane.middle();
     let y = top_of(step.row) + 8;
     if let Some(reach) = reach_of(&step.event.act) {
-        draw_reach(alloc, picture, layout, reach, x, y)?;
+        draw_reach(alloc, picture, layout, step.object, reach, x, y)?;
     }
-    let wakes = is_anybody_at(layout, step.row);
+    let wakes = is_anybody_at(layout, step.object, step.row);
     draw_mark(alloc, picture, mark_of(&step.event.act), wakes, x, y)
 }
 

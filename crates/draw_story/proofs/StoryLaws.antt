@@ -14,8 +14,8 @@ use Rattle.text_lines.specs.declared.fault.FaultyLine.{FaultyLine}
 use Rattle.sync_play.specs.declared.walk.Rest.{Rest}
 use Rattle.sync_play.specs.WalkOutput.{events_in, output_unless}
 use Rattle.sync_play.specs.Walk.{nothing, opened, rest_walk}
-use Rattle.text_trace.specs.Trace.{HasAdded, HasPlayed, rows_with, rows_of}
-use Rattle.text_trace.proofs.TraceLaws.{rows_opened}
+use Rattle.text_trace.specs.Cells.{Texts}
+use Rattle.text_trace.specs.Trace.{Adds, HasAdded, HasPlayed, rows_with}
 use Rattle.draw_story.specs.declared.story.StoryStep.{StoryStep}
 use Rattle.draw_story.specs.Title.{title_words}
 
@@ -43,11 +43,11 @@ module _ {T : Type 0} where
 
   -- one more row, as a step
   pub one_more_row :
-      (made made' : List (StoryStep T)) (rows : List (Row T)) (i : ℕ) (step : StoryStep T) (row : Row T) → i < length rows → row ≡ get_or rows i row → (length made ≡ i) × (map shown_of made ≡ map shown_at (entries (take i rows))) → made' ≡ made ++ step ∷ [] →
-      shown_of step ≡ shown_at (entry_of row) → (length made' ≡ i + 1) × (map shown_of made' ≡ map shown_at (entries (take (i + 1) rows)))
-  one_more_row made made' rows i step row below is was push same = (
+      (titles : List (List ℕ)) (made made' : List (StoryStep T)) (rows : List (Row T)) (i : ℕ) (step : StoryStep T) (row : Row T) → i < length rows → row ≡ get_or rows i row → (length made ≡ i) × (map shown_of made ≡ map (shown_at titles) (entries (take i rows))) → made' ≡ made ++ step ∷ [] →
+      shown_of step ≡ shown_at titles (entry_of row) → (length made' ≡ i + 1) × (map shown_of made' ≡ map (shown_at titles) (entries (take (i + 1) rows)))
+  one_more_row titles made made' rows i step row below is was push same = (
     let grown : length made' ≡ length made + 1 = ap length push ∙ length-append made (step ∷ []) in omega (arith, grown, was.0),
-    one_more shown_of (λ (r : Row T). shown_at (entry_of r)) made made' rows i step row below is (was.1 ∙ map-map shown_at entry_of (take i rows)) push same ∙ sym (map-map shown_at entry_of (take (i + 1) rows)),
+    one_more shown_of (λ (r : Row T). shown_at titles (entry_of r)) made made' rows i step row below is (was.1 ∙ map-map (shown_at titles) entry_of (take i rows)) push same ∙ sym (map-map (shown_at titles) entry_of (take (i + 1) rows)),
   )
 
   at_end : (rows : List (Entry T)) (row : Entry T) → number_at_end (rows ++ row ∷ []) ≡ row.last
@@ -89,9 +89,9 @@ module _ {T : Type 0} where
   left_out_trimmed rows = rw (sym (end_trimmed 2000 rows), sym (take_trimmed 2000 rows)) refl
 
   -- The titles of steps that are drawn as these rows are.
-  pub titles_told : (steps : List (StoryStep T)) (rows : List (Entry T)) → map shown_of steps ≡ map shown_at rows → map (λ (s : StoryStep T). string_bytes s.title) steps ≡ map title_words rows
-  titles_told steps rows e =
-      sym (map-map (λ (s : Shown T). s.title) shown_of steps) ∙ ap (map (λ (s : Shown T). s.title)) e ∙ map-map (λ (s : Shown T). s.title) shown_at rows
+  pub titles_told : (titles : List (List ℕ)) (steps : List (StoryStep T)) (rows : List (Entry T)) → map shown_of steps ≡ map (shown_at titles) rows → map (λ (s : StoryStep T). string_bytes s.title) steps ≡ map (title_words titles) rows
+  titles_told titles steps rows e =
+      sym (map-map (λ (s : Shown T). s.title) shown_of steps) ∙ ap (map (λ (s : Shown T). s.title)) e ∙ map-map (λ (s : Shown T). s.title) (shown_at titles) rows
 
 module _ {T : Type 0} (z : Arithmetic T) (numerals : Numerals T) where
   -- What was told of a text.
@@ -116,23 +116,20 @@ module _ {T : Type 0} (z : Arithmetic T) (numerals : Numerals T) where
             ∙ ap (λ (l : List ℕ). Ok (front ++ l)) (sym line_is),
       )
 
-  -- the rows that were read are the text's, as far as they are kept
-  rows_are : (lines : List (List ℕ)) (header : Header T) (rest : Rest T) (none rows all : List (Row T)) → opened numerals (lines) ≡ Ok (header, lines_of rest.lines.now) → rest.line ≡ 1 → rest.left ≡ nothing → none ≡ [] →
-      (told : Option FaultyLine) → HasAdded z numerals (Some 2000) header [] (rest_walk z numerals header.object header.parties [] rest) none rows told → all ≡ rows → trimmed 2000 (entries all) ≡ trimmed 2000 (rows_of z numerals lines).rows
-  rows_are lines header rest none rows all is line left empty told added same =
-      let opens = rows_opened z numerals lines header rest is line left in
-      ap (λ (l : List (Row T)). trimmed 2000 (entries l)) same ∙ added.0 ∙ ap (λ (l : List (Row T)). trimmed 2000 (rows_with z numerals header [] (rest_walk z numerals header.object header.parties [] rest).steps (entries l))) empty ∙ ap (trimmed 2000) opens
+-- What was kept of the rows of steps that were added.
+module _ {E S T : Type 0} (event : S → E) (cells : List E → S → Texts T) (steps : List S) (fault : Option FaultyLine) where
+  rows_are : (none rows all : List (Row T)) (told : Option FaultyLine) → none ≡ [] → Adds event cells (Some 2000) [] steps fault none rows told → all ≡ rows → trimmed 2000 (entries all) ≡ trimmed 2000 (rows_with event cells [] steps [])
+  rows_are none rows all told empty added same =
+      ap (λ (l : List (Row T)). trimmed 2000 (entries l)) same ∙ added.0 ∙ ap (λ (l : List (Row T)). trimmed 2000 (rows_with event cells [] steps (entries l))) empty
 
-  pub leaves : (lines : List (List ℕ)) (header : Header T) (rest : Rest T) (none rows all : List (Row T)) → opened numerals (lines) ≡ Ok (header, lines_of rest.lines.now) → rest.line ≡ 1 → rest.left ≡ nothing → none ≡ [] →
-      (told : Option FaultyLine) → HasAdded z numerals (Some 2000) header [] (rest_walk z numerals header.object header.parties [] rest) none rows told → all ≡ rows → left_out (entries all) ≡ left_out (rows_of z numerals lines).rows
-  leaves lines header rest none rows all is line left empty told added same =
-      left_out_trimmed (entries all) ∙ ap left_out (rows_are lines header rest none rows all is line left empty told added same) ∙ sym (left_out_trimmed (rows_of z numerals lines).rows)
+  pub leaves : (none rows all : List (Row T)) (told : Option FaultyLine) → none ≡ [] → Adds event cells (Some 2000) [] steps fault none rows told → all ≡ rows → left_out (entries all) ≡ left_out (rows_with event cells [] steps [])
+  leaves none rows all told empty added same =
+      left_out_trimmed (entries all) ∙ ap left_out (rows_are none rows all told empty added same) ∙ sym (left_out_trimmed (rows_with event cells [] steps []))
 
   -- the steps that are drawn
-  pub tells : (lines : List (List ℕ)) (header : Header T) (rest : Rest T) (none rows all : List (Row T)) (steps : List (StoryStep T)) → opened numerals (lines) ≡ Ok (header, lines_of rest.lines.now) → rest.line ≡ 1 → rest.left ≡ nothing → none ≡ [] →
-      (told : Option FaultyLine) → HasAdded z numerals (Some 2000) header [] (rest_walk z numerals header.object header.parties [] rest) none rows told → all ≡ rows → map shown_of steps ≡ map shown_at (kept (entries all)) →
-      map shown_of steps ≡ map shown_at (kept (rows_of z numerals lines).rows)
-  tells lines header rest none rows all steps is line left empty told added same shown =
-      let kept_same : kept (entries all) ≡ kept (rows_of z numerals lines).rows =
-      take_trimmed 2000 (entries all) ∙ ap kept (rows_are lines header rest none rows all is line left empty told added same) ∙ sym (take_trimmed 2000 (rows_of z numerals lines).rows) in
-      shown ∙ ap (map shown_at) kept_same
+  pub tells : (none rows all : List (Row T)) (told : Option FaultyLine) (drawn : List (StoryStep T)) (titles named : List (List ℕ)) → none ≡ [] → Adds event cells (Some 2000) [] steps fault none rows told → all ≡ rows → titles ≡ named →
+      map shown_of drawn ≡ map (shown_at titles) (kept (entries all)) → map shown_of drawn ≡ map (shown_at named) (kept (rows_with event cells [] steps []))
+  tells none rows all told drawn titles named empty added same titled shown =
+      let kept_same : kept (entries all) ≡ kept (rows_with event cells [] steps []) =
+      take_trimmed 2000 (entries all) ∙ ap kept (rows_are none rows all told empty added same) ∙ sym (take_trimmed 2000 (rows_with event cells [] steps [])) in
+      shown ∙ ap (λ (t : List (List ℕ)). map (shown_at t) (kept (entries all))) titled ∙ ap (map (shown_at named)) kept_same

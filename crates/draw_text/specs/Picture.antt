@@ -6,7 +6,7 @@ use Rattle.model_events.specs.Arithmetic.{Arithmetic}
 use Rattle.text_lines.specs.Lexer.{lines_of}
 use Rattle.text_lines.specs.Numerals.{Numerals}
 use Rattle.text_lines.specs.ValueTypes.{values_in}
-use Rattle.text_trace.specs.Trace.{rows_of}
+use Rattle.text_trace.specs.Trace.{RowsAndFault, rows_of}
 use Rattle.draw_story.specs.declared.story.StoryStep.{StoryStep}
 use Rattle.draw_story.specs.Story.{kept}
 use Rattle.draw_story.specs.Title.{title_words}
@@ -19,9 +19,12 @@ IsPicture titles bytes = (element : List ℕ) × (bytes ≡ element ++ codes "\n
 abbrev pub step_titles : {T : Type 0} → List (StoryStep T) → List (List ℕ)
 step_titles steps = map (λ step. string_bytes step.title) steps
 
--- a picture with a group for each row of the trace of these lines, in order, as far as they have room, whose title is that row in words
+-- a picture with a group for each of these rows of a trace, in order, as far as they have room, whose title is that row in words
+abbrev pub IsPictureOfRows : {T : Type 0} → RowsAndFault T → List ℕ → Type 0
+IsPictureOfRows told bytes = IsPicture (map (title_words told.titles) (kept told.rows)) bytes
+
 abbrev pub IsTypedPicture : {T : Type 0} → Arithmetic T → Numerals T → List (List ℕ) → List ℕ → Type 0
-IsTypedPicture z numerals lines bytes = IsPicture (map title_words (kept (rows_of z numerals lines).rows)) bytes
+IsTypedPicture z numerals lines bytes = IsPictureOfRows (rows_of z numerals lines) bytes
 
 -- a picture of a text, by the type of its values
 unfoldable pub IsPictureOf : List ℕ → List ℕ → Type 0

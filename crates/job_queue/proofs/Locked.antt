@@ -6,8 +6,8 @@ use Rattle.running_passes.specs.declared.view.View.{View}
 use Rattle.running_model.specs.Plays.{HasCalled}
 use Rattle.running_model.specs.Slots.{Parties}
 use Rattle.running_mutex.specs.MutexParties.{Unlocks}
-use Rattle.running_tallies.specs.Mutex.{mutex_model}
-use Rattle.running_tallies.specs.declared.mutex.Holds.{Holds}
+use Rattle.running_mutex.specs.Mutex.{mutex_model}
+use Rattle.running_for_one.specs.declared.Holds.{Holds}
 
 pub stays : (p q r s u : MutexPass) → HasEntered p q → HasStayed q r → HasStayed r s → HasUnlocked s u → HasStayed p u
 stays p q r s u entered first second unlocked =

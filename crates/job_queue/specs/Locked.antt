@@ -6,7 +6,7 @@ use Rattle.model_events.specs.declared.hold.HoldKind.{HoldKind}
 use Rattle.running_model.specs.Plays.{HasCalled}
 use Rattle.running_model.specs.Slots.{Parties}
 use Rattle.running_model.specs.Passes.{parties_of}
-use Rattle.running_tallies.specs.Mutex.{mutex_model}
+use Rattle.running_mutex.specs.Mutex.{mutex_model}
 use Rattle.running_mutex.specs.MutexParties.{Unlocks}
 use Rattle.running_mutex.specs.MutexShown.{MutexPass, HasStayed, grants_of}
 use Rattle.running_condvar.specs.Often.{Often}

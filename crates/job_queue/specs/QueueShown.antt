@@ -2,8 +2,8 @@
 use Rattle.std.specs.Prelude.{◌≡◌, ℕ, suc, ◌+◌, ◌≤◌}
 use Rattle.running_passes.specs.Views.{left_view, right_view, joined_view}
 use Rattle.running_model.specs.Passes.{parties_of, core_played, both_played}
-use Rattle.running_tallies.specs.Mutex.{no_holds, both_holds}
-use Rattle.running_tallies.specs.Semaphore.{no_permits, both_permits}
+use Rattle.running_for_one.specs.ForOne.{no_holds, both_holds}
+use Rattle.running_semaphore.specs.Semaphore.{no_permits, both_permits}
 use Rattle.running_condvar.specs.Cond.{no_waits, both_waits}
 use Rattle.running_spin_lock.specs.ValueRule.{core_held, both_held}
 use Rattle.running_condvar.specs.Often.{Often, HasWaitedOften}

@@ -6,8 +6,10 @@ mod answer;
 mod pass;
 mod queue;
 mod state;
+mod word;
 
 pub use answer::{PutFault, Taken};
 pub use pass::QueuePass;
 pub use queue::JobQueue;
 pub use state::QueueState;
+pub use word::QueueWord;

@@ -20,12 +20,12 @@ ghost use Rattle.model_events.specs.declared.WaitAction.TheVariants as actions;
 use crate::answer::{PutFault, Taken};
 use crate::pass::QueuePass;
 use crate::state::QueueState;
+use crate::word::{QueueWord, QueueWords};
 use model_events::WaitAction;
 use running_condvar::{CondPass, CondResult, ConditionVariable, Woken};
 use running_mutex::{Mutex, MutexHold, MutexPass};
 use running_passes::WaitResult;
 use running_spin_lock::{SpinLock, SpinPass};
-use running_tallies::WaitWord;
 use std::alloc::{AllocError, Allocator, Global};
 use std::sync::Wait;
 use std::thread;
@@ -36,8 +36,8 @@ use std::thread;
 /// no job waits at a condition variable, by its caller's wait closure.
 #[derive(Drop)]
 pub struct JobQueue<T, A: Allocator = Global> {
-    pub(crate) mutex: Mutex<A>,
-    pub(crate) changed: ConditionVariable<A>,
+    pub(crate) mutex: Mutex<A, QueueWords>,
+    pub(crate) changed: ConditionVariable<A, QueueWords>,
     pub(crate) state: SpinLock<QueueState<T, A>, A>,
 }
 
@@ -78,8 +78,8 @@ impl<T, A: Allocator> JobQueue<T, A> {
     /// `Closed`, `Full` or `TicketsOut`, by the state (`QueueState::put`).
     ///
     /// The wake closure is called at the mutex's unlock, and once more with the notify.
-    pub fn put<R: Wait, K: Fn(&WaitWord)>(
-        &self,
+    pub fn put<'t, R: Wait, K: Fn(&QueueWord<'t>)>(
+        &'t self,
         rt: &R,
         pass: &mut QueuePass,
         job: T,
@@ -115,8 +115,8 @@ impl<T, A: Allocator> JobQueue<T, A> {
     /// Takes the oldest job, `Taken::Job`. A closed queue without jobs answers `Closed`. While the queue is open and has none the call
     /// waits, as `ConditionVariable::wait` does: `wait` is told the count of permits that was seen, 0. `Interrupted` comes only after
     /// `wait` answered `Abort`, and where the state, looked at once more, is still open and without a job. `Empty` never comes.
-    pub fn take<R: Wait, W: Fn(&WaitWord, &u64) -> WaitAction, K: Fn(&WaitWord)>(
-        &self,
+    pub fn take<'t, R: Wait, W: Fn(&QueueWord<'t>, &u64) -> WaitAction, K: Fn(&QueueWord<'t>)>(
+        &'t self,
         rt: &R,
         pass: &mut QueuePass,
         wait: W,
@@ -145,7 +145,12 @@ impl<T, A: Allocator> JobQueue<T, A> {
     /// Closes the queue, and notifies all that wait. What it holds can still be taken; a queue that is closed stays so.
     ///
     /// The closure is called at the mutex's unlock, and once more with the notify.
-    pub fn close<R: Wait, K: Fn(&WaitWord)>(&self, rt: &R, pass: &mut QueuePass, wake_all: K)
+    pub fn close<'t, R: Wait, K: Fn(&QueueWord<'t>)>(
+        &'t self,
+        rt: &R,
+        pass: &mut QueuePass,
+        wake_all: K,
+    )
         requires own { IsQueuePass self.now pass.old }
         requires may { K.IsAlwaysCallable wake_all }
         ensures stayed { HasStayed pass.old pass.new }
@@ -175,10 +180,10 @@ fn go_on() -> WaitAction
 }
 
 /// Puts the job into the state, with the mutex and the spin lock held.
-fn put_locked<T, A: Allocator, R: Wait, K: Fn(&WaitWord)>(
+fn put_locked<'t, T, A: Allocator, R: Wait, K: Fn(&QueueWord<'t>)>(
     mtx_pass: &mut MutexPass,
     rt: &R,
-    mutex: &Mutex<A>,
+    mutex: &'t Mutex<A, QueueWords>,
     pass: &mut SpinPass,
     state: &SpinLock<QueueState<T, A>, A>,
     job: T,
@@ -199,7 +204,7 @@ fn put_locked<T, A: Allocator, R: Wait, K: Fn(&WaitWord)>(
             let put = put_now(&hold, pass, rt, state, job);
             mutex.unlock(
                 hold,
-                |word: &WaitWord|
+                |word|
                     requires { K.IsAlwaysCallable wake_one.now }
                     ensures { K.post wake_one.entry.now word.entry result }
                 { wake_one(word) },
@@ -211,10 +216,10 @@ fn put_locked<T, A: Allocator, R: Wait, K: Fn(&WaitWord)>(
 }
 
 /// Closes the state, with the mutex and the spin lock held.
-fn close_locked<T, A: Allocator, R: Wait, K: Fn(&WaitWord)>(
+fn close_locked<'t, T, A: Allocator, R: Wait, K: Fn(&QueueWord<'t>)>(
     mtx_pass: &mut MutexPass,
     rt: &R,
-    mutex: &Mutex<A>,
+    mutex: &'t Mutex<A, QueueWords>,
     pass: &mut SpinPass,
     state: &SpinLock<QueueState<T, A>, A>,
     wake_one: &K,
@@ -230,7 +235,7 @@ fn close_locked<T, A: Allocator, R: Wait, K: Fn(&WaitWord)>(
     match Mutex::lock(mtx_pass, mutex, rt, |_, _| go_on()) {
         WaitResult::Success(hold) => {
             close_now(&hold, pass, rt, state);
-            mutex.unlock(hold, |word: &WaitWord| wake_one(word));
+            mutex.unlock(hold, |word| wake_one(word));
         }
         WaitResult::Interrupted => unreachable!(),
     }
@@ -238,10 +243,17 @@ fn close_locked<T, A: Allocator, R: Wait, K: Fn(&WaitWord)>(
 
 /// Takes from the state, and waits while it is empty and open.
 #[tactic(auto, using(crate::proofs::Locked::stays))]
-fn take_locked<T, A: Allocator, R: Wait, W: Fn(&WaitWord, &u64) -> WaitAction, K: Fn(&WaitWord)>(
+fn take_locked<
+    't,
+    T,
+    A: Allocator,
+    R: Wait,
+    W: Fn(&QueueWord<'t>, &u64) -> WaitAction,
+    K: Fn(&QueueWord<'t>),
+>(
     mtx_pass: &mut MutexPass,
     rt: &R,
-    queue: &JobQueue<T, A>,
+    queue: &'t JobQueue<T, A>,
     cond_pass: &mut CondPass,
     pass: &mut SpinPass,
     wait: &W,
@@ -296,9 +308,17 @@ enum Looked<T, H> {
 }
 
 /// Takes from the state, and waits once where it is empty and open.
-fn look<'p, T, A: Allocator, R: Wait, W: Fn(&WaitWord, &u64) -> WaitAction, K: Fn(&WaitWord)>(
+fn look<
+    'p,
+    't,
+    T,
+    A: Allocator,
+    R: Wait,
+    W: Fn(&QueueWord<'t>, &u64) -> WaitAction,
+    K: Fn(&QueueWord<'t>),
+>(
     hold: MutexHold<'p>,
-    queue: &JobQueue<T, A>,
+    queue: &'t JobQueue<T, A>,
     rt: &R,
     cond_pass: &mut CondPass,
     pass: &mut SpinPass,
@@ -328,9 +348,17 @@ fn look<'p, T, A: Allocator, R: Wait, W: Fn(&WaitWord, &u64) -> WaitAction, K: F
 }
 
 /// Waits once, and has the mutex again.
-fn sleep_once<'p, T, A: Allocator, R: Wait, W: Fn(&WaitWord, &u64) -> WaitAction, K: Fn(&WaitWord)>(
+fn sleep_once<
+    'p,
+    't,
+    T,
+    A: Allocator,
+    R: Wait,
+    W: Fn(&QueueWord<'t>, &u64) -> WaitAction,
+    K: Fn(&QueueWord<'t>),
+>(
     hold: MutexHold<'p>,
-    queue: &JobQueue<T, A>,
+    queue: &'t JobQueue<T, A>,
     rt: &R,
     pass: &mut CondPass,
     wait: &W,
@@ -352,7 +380,7 @@ fn sleep_once<'p, T, A: Allocator, R: Wait, W: Fn(&WaitWord, &u64) -> WaitAction
         pass,
         &queue.mutex,
         |word| wake_one(word),
-        |word: &WaitWord, seen: &u64| -> WaitAction
+        |word, seen| -> WaitAction
             requires { W.IsAlwaysCallable wait.now }
             ensures { W.post wait.entry.now word.entry seen.entry result }
         { wait(word, seen) },

@@ -8,5 +8,6 @@ pub use Rattle.model_events.proofs.NextStep.{ends_within, steps_as, Descends}
 pub use Rattle.model_events.proofs.Own.{IsCallAfter, call_was, own_among, at_last_maps, IsToldOf, own_at_last}
 pub use Rattle.model_events.proofs.Parties.{at_place_from_rest, each_rests, fault_at_none, IsKept, IsKeptFromRest, IsAtPlaceOrRests, at_place}
 pub use Rattle.model_events.proofs.RwAnswers.{LeadsTo, leads_on, answers_by_hold}
+pub use Rattle.model_events.proofs.Runs.{plays_next, refuses_next}
 pub use Rattle.model_events.proofs.Spins.{HasSpun, spins_spent, answered_keep, begun_spun, passed_on, refused_because}
 pub use Rattle.model_events.proofs.Steps.{carried_is_step, carried_goes_on, carried_stage, by_move, tells_memory, lacked_word}

@@ -10,4 +10,5 @@ pub mod Asks
 pub mod LastSights
 pub mod Own
 pub mod NextStep
+pub mod Runs
 pub mod Exports

@@ -8,7 +8,7 @@ pub use Rattle.model_events.specs.Moves.{stage_after, next_stage, stage_of, is_l
 pub use Rattle.model_events.specs.NextStep.{StepsAs, refused_waiting, step_before, seen_by, seen_last, Loads, Exchanges, EndsWithin}
 pub use Rattle.model_events.specs.Past.{same_word, word_after, word_in, event, PendingCall, call_going_on, call_after, call_of, latest_outcome, Hold, is_release, hold_taken, with_hold, without, holds_of, hold_among, hold_of, hold_or, hold_after, is_failure, failures_by, failures_in}
 pub use Rattle.model_events.specs.Rows.{carried_out, value_told, outcome_of, place_after, within, within_then, refused, is_continue, answered}
-pub use Rattle.model_events.specs.Runs.{IsPast, after, AtEveryPrefix}
+pub use Rattle.model_events.specs.Runs.{IsPast, IsRunBy, after, AtEveryPrefix, ContinuesBy, ContinuesUpTo}
 pub use Rattle.model_events.specs.RwAnswers.{kind_wanted, acts_of, IsRwAnswer, IsAnswered, AnswersByHold}
 pub use Rattle.model_events.specs.RwSteps.{gives_up, open_at, reader_looked, ReadsIn, WritesIn}
 pub use Rattle.model_events.specs.Sights.{sight_of, is_sight, is_beginning, AtLast, AtLastSight, is_abort, keeps_asking, HasAborted, is_write, OtherWroteSinceSight, HasMissed, goes_on, stands_at_wait, spins_in, stands_in, is_exchange, exchanges_in, is_done_exchange, acts_in, last_of}

@@ -29,10 +29,10 @@ pub use Rattle.model_events.specs.declared.event.Word.{Word}
 pub use Rattle.model_events.specs.declared.hold.HoldKind.{HoldKind}
 pub use Rattle.model_events.specs.declared.row.After.{After}
 pub use Rattle.model_events.specs.declared.row.Intent.{Intent}
-pub use Rattle.running_tallies.specs.Counts.{count_at, one_more, both_counts, counts_swap, counts_group}
-pub use Rattle.running_tallies.specs.Held.{TellsSame, Locks, write_holds, both_held, held_adds_up}
-pub use Rattle.running_tallies.specs.declared.held.Held.{Held}
-pub use Rattle.running_tallies.specs.declared.held.Held.TheVariants.{Free, Reading, Writing}
+pub use Rattle.running_model.specs.CountLists.{count_at, one_more, both_counts, counts_swap, counts_group}
+pub use Rattle.running_rw_hold.specs.Held.{TellsSame, Locks, write_holds, both_held, held_adds_up}
+pub use Rattle.running_rw_hold.specs.declared.held.Held.{Held}
+pub use Rattle.running_rw_hold.specs.declared.held.Held.TheVariants.{Free, Reading, Writing}
 pub use Rattle.std.proofs.Common.{zero, suc, refl, sym, ap, ◌∙◌, ⊎_elim, inl, inr, arith, ◌%◌, ◌<◌, subst}
 pub use Rattle.running_atomic.specs.declared.history.Place.{Place}
 pub use Rattle.std.proofs.lemmas.Bool.{eqb-true, eqb-false, ne_eqb}
@@ -58,4 +58,4 @@ pub use lib.ListN.{get_elem?}
 pub use Rattle.atomic_table.specs.Table.{State}
 pub use Rattle.running_model.specs.declared.played.Played.{Played}
 pub use Rattle.running_passes.specs.Tallies.{IsTally}
-pub use Rattle.running_tallies.specs.CountLaws.{in_both, more_in_both}
+pub use Rattle.running_model.specs.CountLists.{in_both, more_in_both}

@@ -8,7 +8,7 @@ ghost use Rattle.model_events.specs.Arithmetic.{IsValue};
 ghost use Rattle.model_events.specs.Moves.{CallValues};
 ghost use Rattle.model_atomic.specs.declared.AtomicPlace.TheVariants as places;
 ghost use Rattle.model_atomic.specs.Table.{atomic_grant, inside, compares, knows};
-ghost use Rattle.running_tallies.specs.declared.held.Held.TheVariants.{Free};
+ghost use Rattle.running_rw_hold.specs.declared.held.Held.TheVariants.{Free};
 ghost use Rattle.running_passes.specs.Passes.{IsSamePass};
 ghost use Rattle.running_model.specs.Slots.{Slot};
 ghost use Rattle.running_model.specs.Plays.{HasCalled, HasEnded};

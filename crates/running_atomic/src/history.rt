@@ -4,7 +4,7 @@ ghost use Rattle.running_atomic.specs.declared.history.Place.{Place};
 ghost use Rattle.running_atomic.specs.declared.history.AtomicAct.{AtomicAct};
 
 use running_passes::Tally;
-use running_tallies::{Held, Known};
+use running_rw_hold::{Held, Known};
 use std::marker::Model;
 
 /// A value, as its two words.

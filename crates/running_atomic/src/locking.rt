@@ -5,7 +5,7 @@ ghost use Rattle.model_events.specs.declared.hold.HoldKind.TheVariants as kinds;
 ghost use Rattle.model_events.specs.Moves.{CallValues};
 ghost use Rattle.model_atomic.specs.declared.AtomicPlace.TheVariants as places;
 ghost use Rattle.model_atomic.specs.Table.{look_at, inside};
-ghost use Rattle.running_tallies.specs.declared.held.Held.TheVariants.{Free};
+ghost use Rattle.running_rw_hold.specs.declared.held.Held.TheVariants.{Free};
 ghost use Rattle.running_model.specs.Slots.{Slot, all_of};
 ghost use Rattle.running_model.specs.Passes.{parties_of, counts_of};
 ghost use Rattle.running_model.specs.Stages.{IsPassOf, key_of};

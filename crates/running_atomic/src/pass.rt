@@ -4,7 +4,7 @@ ghost use Rattle.running_model.specs.Slots.{no_parties, both_parties};
 ghost use Rattle.running_model.specs.Passes.{counts_of};
 ghost use Rattle.running_passes.specs.Parts.{half, IsAgain, IsSamePart, AddUp};
 ghost use Rattle.running_passes.specs.declared.part.Part.{Part};
-ghost use Rattle.running_tallies.specs.declared.held.Held.TheVariants.{Free};
+ghost use Rattle.running_rw_hold.specs.declared.held.Held.TheVariants.{Free};
 
 use crate::calls::Atomic;
 use crate::script::PlayedAtomic;

@@ -1,6 +1,6 @@
 //! The steps on the words of an atomic, one atomic step each.
 ghost use Rattle.std.specs.Prelude.{◌≡◌, ◌<◌, ◌-◌, ◌^◌, ◌+◌, ℕ, None};
-ghost use Rattle.running_tallies.specs.declared.held.Held.TheVariants.{Free};
+ghost use Rattle.running_rw_hold.specs.declared.held.Held.TheVariants.{Free};
 ghost use Rattle.running_passes.specs.Passes.{IsSamePass};
 ghost use Rattle.running_model.specs.Plays.{Beginning, Choosing, Going, MayStep, Went};
 ghost use Rattle.running_model.specs.Passes.{parties_of, counts_of, counted};

@@ -2,7 +2,7 @@
 use Rattle.std.specs.Prelude.{◌*◌}
 use Rattle.std.proofs.lemmas.Nat.{div-add-mod'}
 use Rattle.running_model.proofs.Words.{hold_at}
-use Rattle.running_barrier.specs.Names.{word_of}
+use Rattle.running_barrier.specs.Barrier.{word_of}
 use Rattle.running_barrier.specs.BarrierSteps.{WordCountsArrivals}
 use Rattle.running_barrier.proofs.Names.{sum, Word, Intent, count_of, arrivals_in, full_rounds, View, IsWhole, total, left_view, right_view, joined_view, sum_of, view, parties_of, counted, Coming, MayStep, none_played, both_played, core_played, played_add_up, IsShare, Acted, Rounds, both_counts, in_round, no_rounds, both_rounds, known_rounds, reaching, arrived, rounds_after, AreRounds, AreRoundsIn, barrier_model, ◌≡◌, ℕ, ◌+◌, ◌/◌, ◌%◌, ◌^◌, ◌<◌, List, [], ◌∷◌, Some, sym, refl, ap, ◌∙◌, arith, carried_out, value_told, sights_after, of_a_run, done_so, missed_so, sum_at, in_both, rounds_add_up, sum_cons, sum_more, by_count, again, arrives, BarrierView, ArrivalsAreOfARun, OpenRoundsAreFull, Says, HasAll, Loaded, Arrives, Exchanged, BarrierPass, counts_of, arrivals_of, nat_tests, eqb-true, eqb-false}
 

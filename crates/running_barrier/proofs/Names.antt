@@ -7,8 +7,8 @@ pub use Rattle.running_model.specs.Sees.{sights_after}
 pub use Rattle.running_model.proofs.OfARun.{of_a_run}
 pub use Rattle.running_model.proofs.Steps.{done_so, missed_so}
 pub use Rattle.running_passes.proofs.Sums.{sum_at}
-pub use Rattle.running_tallies.specs.CountLaws.{in_both}
-pub use Rattle.running_tallies.specs.Barrier.{rounds_add_up, sum_cons, sum_more, by_count, again, arrives, waiters_fit}
+pub use Rattle.running_model.specs.CountLists.{in_both}
+pub use Rattle.running_barrier.specs.Barrier.{rounds_add_up, sum_cons, sum_more, by_count, again, arrives, waiters_fit}
 pub use Rattle.running_barrier.specs.BarrierSteps.{BarrierView, ArrivalsAreOfARun, OpenRoundsAreFull, Says, HasAll, Loaded, Arrives, Exchanged}
 pub use Rattle.running_barrier.specs.BarrierShown.{BarrierPass, counts_of, arrivals_of, IsNextWord, waiters_of, HasStayed, reached_of, HasPlayed, HasFilled}
 pub use Rattle.model_events.specs.declared.WaitAction.{WaitAction}

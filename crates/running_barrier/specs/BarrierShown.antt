@@ -1,6 +1,8 @@
 -- What contracts see of a barrier and its pass, and what a call changes in a pass.
 use Rattle.std.specs.Prelude.{◌≡◌, ℕ, ◌+◌, ◌<◌, ◌≤◌, ◌%◌, ◌^◌, ◌⊎◌, List, None}
 use Rattle.running_barrier.specs.Names.{sum, Call, Answer, Then, BarrierPlace, epoch_of, count_of, opened, barrier_model, IsWhole, seen, stale, IsSamePass, part_of, sights_of, Played, all_of, HasCalled, IsAt, parties_of, tally_of, Rounds, BarrierScript, one_more, Pass, IsPassOf, key_of}
+use Rattle.atomic_table.specs.Seated.{TableId}
+use Rattle.running_model.specs.Stages.{id_of}
 use Rattle.running_barrier.specs.declared.Barrier.{Barrier}
 use Rattle.running_barrier.specs.BarrierSteps.{Arrives}
 
@@ -8,12 +10,16 @@ use Rattle.running_barrier.specs.BarrierSteps.{Arrives}
 abbrev pub BarrierPass : Type 0
 BarrierPass = Pass (Played BarrierScript BarrierPlace ℕ Rounds)
 
-module _ {A : Type 0} where
-  abbrev pub IsBarrierPass : Barrier A → BarrierPass → Type 0
+module _ {A S : Type 0} where
+  abbrev pub IsBarrierPass : Barrier A S → BarrierPass → Type 0
   IsBarrierPass b p = IsPassOf b.stage p
 
+  -- this is its word, by its object and which of that object's words it is
+  abbrev pub IsItsWord : Barrier A S → TableId → ℕ → Type 0
+  IsItsWord b object index = (object ≡ id_of b.stage) × (index ≡ 0)
+
   -- how many it was made for
-  abbrev pub waiters_of : Barrier A → ℕ
+  abbrev pub waiters_of : Barrier A S → ℕ
   waiters_of b = key_of b.stage % 2 ^ 32
 
 -- how often the pass's owner arrived in each round, the first round first

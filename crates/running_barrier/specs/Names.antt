@@ -18,10 +18,10 @@ pub use Rattle.model_events.specs.declared.event.Call.{Call}
 pub use Rattle.model_events.specs.declared.event.Then.{Then}
 pub use Rattle.model_events.specs.declared.event.Word.{Word}
 pub use Rattle.model_events.specs.declared.row.Intent.{Intent}
-pub use Rattle.running_tallies.specs.Barrier.{in_round, no_rounds, both_rounds, known_rounds, reaching, arrived, rounds_after, word_of, AreRounds, AreRoundsIn, barrier_model}
-pub use Rattle.running_tallies.specs.Counts.{one_more, both_counts}
-pub use Rattle.running_tallies.specs.declared.barrier.BarrierScript.{BarrierScript}
-pub use Rattle.running_tallies.specs.declared.barrier.Rounds.{Rounds}
+pub use Rattle.running_barrier.specs.Barrier.{in_round, no_rounds, both_rounds, known_rounds, reaching, arrived, rounds_after, word_of, AreRounds, AreRoundsIn, barrier_model}
+pub use Rattle.running_model.specs.CountLists.{one_more, both_counts}
+pub use Rattle.running_barrier.specs.declared.rounds.BarrierScript.{BarrierScript}
+pub use Rattle.running_barrier.specs.declared.rounds.Rounds.{Rounds}
 pub use Rattle.running_passes.specs.declared.pass.Pass.{Pass}
 pub use Rattle.running_model.specs.Stages.{IsPassOf, key_of}
 pub use mathlib.Core.Option.{some}

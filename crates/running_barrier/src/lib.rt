@@ -11,31 +11,34 @@ ghost use Rattle.running_model.specs.Stages.{count_of as words_of, key_of};
 ghost use Rattle.running_barrier.specs.BarrierSteps.{ArrivalsAreOfARun, OpenRoundsAreFull, WordCountsArrivals};
 ghost use Rattle.model_barrier.specs.Rounds.{epoch_of, count_of};
 
+mod rounds;
 mod shares;
 
 use model_barrier::{BarrierPlace, arrived, count_of, epoch_of};
 use model_events::SPIN_REPETITIONS;
+pub use rounds::{Arrivals, BarrierScript, PlayedBarrier, Rounds};
 use running_model::calls::WaitCall;
 use running_model::turn::{Goes, Turn, Way, begin_new};
-use running_model::{Sealed, Stage};
-use running_passes::{Origin, Pass};
-use running_tallies::{BarrierScript, PlayedBarrier, Rounds, WaitWord};
+use running_model::{OfWord, OwnWords, Sealed, Shown, Shows, Stage};
+use running_passes::{Origin, Pass, Word};
 use std::alloc::{AllocError, Allocator, Global};
 use std::hint::spin_loop;
+use std::marker::PhantomData;
 use std::ops::Deref;
 use std::sync::Wait;
 
 /// A barrier for a fixed number of waiters.
 #[derive(Drop)]
-pub struct Barrier<A: Allocator = Global> {
+pub struct Barrier<A: Allocator = Global, S = OwnWords> {
     stage: Stage<u32, BarrierScript, BarrierPlace, u64, Rounds, A>,
     number_of_waiters: u32,
+    shows: PhantomData<S>,
     ghost one_word: { words_of stage ≡ 1 },
     ghost waiters: { key_of stage ≡ number_of_waiters },
 }
 
 /// What the passes of a barrier come from, at which they are split and joined.
-impl<A: Allocator> Deref for Barrier<A> {
+impl<A: Allocator, S> Deref for Barrier<A, S> {
     ghost use Rattle.running_model.specs.Stages.{origin};
 
     type Target = Origin<u32, PlayedBarrier, A>;
@@ -48,6 +51,9 @@ impl<A: Allocator> Deref for Barrier<A> {
     }
 }
 
+/// The word of a barrier, as wait and wake closures see it. It can be loaded and slept on, and no more.
+pub type BarrierWord<'t> = Word<'t, u32, PlayedBarrier>;
+
 /// The right to call a barrier, and what its owner did and saw there.
 pub type BarrierPass = Pass<PlayedBarrier>;
 
@@ -55,13 +61,13 @@ pub type BarrierPass = Pass<PlayedBarrier>;
 #[derive(Clone, Copy, Debug, PartialEq, Eq)]
 pub struct BarrierFull;
 
-impl<A: Allocator> Barrier<A> {
+impl<A: Allocator, S> Barrier<A, S> {
     ghost use Rattle.std.specs.Prelude.{true, false, ◌+◌, ◌%◌, ◌^◌, ◌≢◌, [], ◌∷◌, MatchBool, IfErr, is_ok, Some, List};
     ghost use Rattle.model_events.specs.declared.event.Word.TheVariants as words;
     ghost use Rattle.model_events.specs.declared.event.Call.TheVariants as calls;
     ghost use Rattle.model_events.specs.declared.event.Answer.TheVariants as answers;
     ghost use Rattle.model_events.specs.declared.row.Intent.TheVariants as intents;
-    ghost use Rattle.running_tallies.specs.Barrier.{barrier_model, no_rounds, word_of};
+    ghost use Rattle.running_barrier.specs.Barrier.{barrier_model, no_rounds, word_of};
     ghost use Rattle.running_passes.specs.Answers.{HasWoken};
     ghost use Rattle.running_passes.specs.Parts.{IsWhole};
     ghost use Rattle.running_passes.specs.Views.{first_view};
@@ -70,15 +76,13 @@ impl<A: Allocator> Barrier<A> {
     ghost use Rattle.running_model.specs.Plays.{MayStep, Went, Beginning};
     ghost use Rattle.running_model.specs.Passes.{played};
     ghost use Rattle.running_model.specs.Counts.{HasSeen};
-    ghost use Rattle.running_model.specs.Stages.{id_of};
     ghost use Rattle.running_passes.specs.Sights.{stale};
-    ghost use Rattle.running_tallies.specs.Shown.{object_shown, index_shown};
     ghost use Rattle.running_barrier.specs.BarrierSteps.{Loaded, Exchanged, HasAll};
     ghost use Rattle.running_barrier.specs.BarrierParties.{HasLooked, HasJoined, ComesToStay, Looks, HasLeft, OnceLooked, OnceToStay, OnceLooking};
-    ghost use Rattle.running_barrier.specs.BarrierShown.{IsBarrierPass, waiters_of, reached_of, opened_of, HasArrived, HasLookedOnce, HasStayed, HasPassed, IsNextWord, HasPlayed, HasFilled};
+    ghost use Rattle.running_barrier.specs.BarrierShown.{IsBarrierPass, IsItsWord, waiters_of, reached_of, opened_of, HasArrived, HasLookedOnce, HasStayed, HasPassed, IsNextWord, HasPlayed, HasFilled};
 
     /// A barrier for so many waiters, and the pass that is whole. `Err` where there was no memory; then nothing was made.
-    pub fn new(alloc: A, number_of_waiters: u32) -> Result<(Barrier<A>, BarrierPass), AllocError>
+    pub fn new(alloc: A, number_of_waiters: u32) -> Result<(Barrier<A, S>, BarrierPass), AllocError>
         ensures own { IfOk result (λ made. IsBarrierPass made.0 made.1) }
         ensures waiters { IfOk result (λ made. waiters_of made.0 ≡ number_of_waiters) }
         ensures first { IfOk result (λ made. view made.1 ≡ first_view (played no_parties no_rounds)) }
@@ -88,6 +92,7 @@ impl<A: Allocator> Barrier<A> {
             Barrier {
                 stage,
                 number_of_waiters,
+                shows: PhantomData,
             },
             pass,
         ))
@@ -98,13 +103,14 @@ impl<A: Allocator> Barrier<A> {
     /// epoch are followed by the next at once, and each later one by a call of `wait`. `BarrierFull` where the barrier was made for
     /// 0; then this call has not arrived. A waiter that sleeps through 2^32 rounds sees its own epoch again, and stays.
     #[inline(always)]
-    pub fn wait<R: Wait, W: Fn(&WaitWord, &u64), K: Fn(&WaitWord)>(
-        &self,
-        rt: &R,
-        pass: &mut BarrierPass,
-        wait: W,
-        wake_all: K,
-    ) -> Result<(), BarrierFull>
+    pub fn wait<
+        't,
+        R: Wait,
+        W: Fn(&<S as Shows<'t, BarrierWord<'t>>>::As, &u64),
+        K: Fn(&<S as Shows<'t, BarrierWord<'t>>>::As),
+    >(&'t self, rt: &R, pass: &mut BarrierPass, wait: W, wake_all: K) -> Result<(), BarrierFull>
+    where
+        S: Shows<'t, BarrierWord<'t>>,
         requires own { IsBarrierPass self.now pass.old }
         requires may { W.IsAlwaysCallable wait × K.IsAlwaysCallable wake_all }
         ensures passed { IfOk result (λ _. HasPassed pass.old pass.new) }
@@ -126,12 +132,13 @@ impl<A: Allocator> Barrier<A> {
             return Err(BarrierFull);
         };
         let (from, joined) = self.arrive(rt, turn, seen, next);
+        let word = self.word();
         if fills(from, number_of_waiters) {
-            let woken = joined.wake(&self.stage, &self.word(), &wake_all);
+            let (woken, _wake_all) = joined.wake(&self.stage, &word, wake_all);
             let _pass = woken.end_aside(&self.stage);
             return Ok(());
         }
-        let left = self.stay(rt, joined, epoch_of(from), &wait);
+        let left = self.stay(rt, joined, epoch_of(from), &word, &wait);
         let _pass = left.end(&self.stage);
         Ok(())
     }
@@ -197,16 +204,18 @@ impl<A: Allocator> Barrier<A> {
     }
 
     /// Waits until the epoch is another than this one, which was that of the last look or arrival.
-    fn stay<'p, R: Wait, W: Fn(&WaitWord, &u64)>(
+    fn stay<'p, X: Shown, R: Wait, W: Fn(&X, &u64)>(
         &self,
         rt: &R,
         turn: Turn<'p, BarrierPass, Goes>,
         own_epoch: u64,
+        word: &Sealed<X>,
         wait: &W,
     ) -> Turn<'p, BarrierPass, Goes>
         requires own { IsBarrierPass self.now turn.pass.now }
         requires own_epoch { own_epoch ≡ reached_of turn.pass.now % 2 ^ 32 }
         requires comes { (done : List (Slot ℕ)) × ComesToStay (waiters_of self.now) own_epoch done (parties_of turn.pass.now) }
+        requires its { IsItsWord self.now (X.object word.now.shown) (X.index word.now.shown) }
         requires may { W.IsAlwaysCallable wait.now }
         ensures same_borrow { result.pass.ghost_name ≡ turn.entry.pass.ghost_name }
         ensures stayed { HasStayed turn.entry.pass.now result.pass.now }
@@ -215,7 +224,7 @@ impl<A: Allocator> Barrier<A> {
         ensures left { OnceToStay (waiters_of self.now) own_epoch (parties_of turn.entry.pass.now) (λ done. HasLeft (waiters_of self.now) done (parties_of result.pass.now)) }
     {
         let (seen, spun) = self.spin(turn, own_epoch);
-        self.ask(rt, spun, own_epoch, seen, wait)
+        self.ask(rt, spun, own_epoch, seen, word, wait)
     }
 
     /// Looks, up to 10000 times more while the epoch is this one. The value seen last.
@@ -249,18 +258,20 @@ impl<A: Allocator> Barrier<A> {
     }
 
     /// The wait closure before each further look, until the epoch is another than this one.
-    fn ask<'p, R: Wait, W: Fn(&WaitWord, &u64)>(
+    fn ask<'p, X: Shown, R: Wait, W: Fn(&X, &u64)>(
         &self,
         rt: &R,
         turn: Turn<'p, BarrierPass, Goes>,
         own_epoch: u64,
         seen: u64,
+        word: &Sealed<X>,
         wait: &W,
     ) -> Turn<'p, BarrierPass, Goes>
         requires own { IsBarrierPass self.now turn.pass.now }
         requires epoch { epoch_of seen ≡ reached_of turn.pass.now % 2 ^ 32 }
         requires all { HasAll (waiters_of self.now) (counted turn.pass.now) }
         requires looks { (done : List (Slot ℕ)) × Looks (waiters_of self.now) own_epoch 10000 seen done (parties_of turn.pass.now) }
+        requires its { IsItsWord self.now (X.object word.now.shown) (X.index word.now.shown) }
         requires may { W.IsAlwaysCallable wait.now }
         ensures same_borrow { result.pass.ghost_name ≡ turn.entry.pass.ghost_name }
         ensures stayed { HasStayed turn.entry.pass.now result.pass.now }
@@ -268,14 +279,13 @@ impl<A: Allocator> Barrier<A> {
         ensures all { HasAll (waiters_of self.now) (counted result.pass.now) }
         ensures left { OnceLooking (waiters_of self.now) own_epoch 10000 seen (parties_of turn.entry.pass.now) (λ done. HasLeft (waiters_of self.now) done (parties_of result.pass.now)) }
     {
-        let word = self.word();
         let mut seen = seen;
         let mut next = turn;
         for _ in rt.forever() {
             if epoch_of(seen) != own_epoch {
                 return next;
             }
-            let continued = next.tell(&self.stage, &word, seen, wait);
+            let continued = next.tell(&self.stage, word, seen, wait);
             let (found, again) = self.look(continued);
             seen = found;
             next = again;
@@ -334,9 +344,8 @@ impl<A: Allocator> Barrier<A> {
 
     /// The barrier's word, as closures see it.
     #[inline(always)]
-    fn word(&self) -> Sealed<WaitWord<'_>>
-        ensures object { object_shown result.shown ≡ id_of self.now.stage }
-        ensures index { index_shown result.shown ≡ 0 }
+    fn word<'t, X: OfWord<BarrierWord<'t>>>(&'t self) -> Sealed<X>
+        ensures its { IsItsWord self.now (X.Shown.object result.shown) (X.Shown.index result.shown) }
     {
         self.stage.shown(0)
     }

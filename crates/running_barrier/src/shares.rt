@@ -4,7 +4,7 @@ use crate::{Barrier, BarrierPass};
 use running_sharing::Shares;
 use std::alloc::Allocator;
 
-impl<A: Allocator> Shares<Barrier<A>> for BarrierPass {
+impl<A: Allocator, S> Shares<Barrier<A, S>> for BarrierPass {
     ghost use Rattle.running_passes.specs.Passes.{part_of};
     ghost use Rattle.running_barrier.specs.BarrierShown.{IsBarrierPass};
 
@@ -12,14 +12,14 @@ impl<A: Allocator> Shares<Barrier<A>> for BarrierPass {
 
     ghost part = { part_of };
 
-    fn cut(self, of: &Barrier<A>) -> (BarrierPass, BarrierPass) {
+    fn cut(self, of: &Barrier<A, S>) -> (BarrierPass, BarrierPass) {
         let Ok(parts) = self.split(of) else {
             unreachable!()
         };
         parts
     }
 
-    fn mend(one: BarrierPass, other: BarrierPass, of: &Barrier<A>) -> BarrierPass {
+    fn mend(one: BarrierPass, other: BarrierPass, of: &Barrier<A, S>) -> BarrierPass {
         let Ok(pass) = BarrierPass::join(one, other, of) else {
             unreachable!()
         };

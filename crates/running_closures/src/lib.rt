@@ -7,13 +7,12 @@ ghost use Rattle.model_events.specs.declared.WaitAction.TheVariants as actions;
 mod sleepers;
 
 use model_events::WaitAction;
-use running_tallies::WaitWord;
 pub use sleepers::{Sleepers, none_sleeps_uncounted};
 use std::thread;
 
 /// A wait closure: yields, and never gives up. So a call that waits by it is never interrupted, by proof.
 #[inline(always)]
-pub fn yield_and_go_on(_word: &WaitWord, _seen: &u64) -> WaitAction
+pub fn yield_and_go_on<W>(_word: &W, _seen: &u64) -> WaitAction
     ensures { result ≡ actions.Continue }
 {
     thread::yield_now();
@@ -22,4 +21,4 @@ pub fn yield_and_go_on(_word: &WaitWord, _seen: &u64) -> WaitAction
 
 /// A wake closure: wakes nobody, since who waits by yielding needs no wake.
 #[inline(always)]
-pub fn wake_nobody(_word: &WaitWord) {}
+pub fn wake_nobody<W>(_word: &W) {}

@@ -1,6 +1,9 @@
 -- What a notify gives, and what a wait comes to.
-use Rattle.running_condvar.proofs.Names.{Call, Answer, Bor, Shared, WaitAction, IsWhole, part_of, counts_of, gave, ◌≡◌, ℕ, ◌<◌, Bool, true, false, MatchBool, ◌⊎◌, subst, arith, HasSeen, HasDone, HasGivenUp, CondPass, MutexPass, IsLocked, HasEntered, HasUnlocked, waits_in, permits_in, HasPlayedCount, HasNotified, HasGiven, TakesNone, HasSlept, HasLeft, HasRegained, SemPass, HasTaken, HasPlayedPost, nat_tests, eqb-true, eqb-false}
-use Rattle.running_semaphore.specs.SemaphoreShown.{HasPlayed}
+use Rattle.running_condvar.proofs.Names.{Call, Answer, Bor, Shared, WaitAction, IsWhole, part_of, counts_of, gave, ◌≡◌, ℕ, ◌<◌, Bool, true, false, MatchBool, ◌⊎◌, subst, arith, HasSeen, HasDone, HasGivenUp, CondPass, MutexPass, IsLocked, HasEntered, HasUnlocked, waits_in, permits_in, HasPlayedCount, HasNotified, HasGiven, TakesOne, TakesNone, HasSlept, HasLeft, HasRegained, SemPass, HasTaken, HasPlayedPost, nat_tests, eqb-true, eqb-false}
+use Rattle.running_semaphore.specs.SemaphoreShown.{HasPlayed, IsEmpty, worth_of}
+use Rattle.running_model.specs.Counts.{WasRefused}
+use Rattle.running_passes.specs.Answers.{MayAnswerAbort, HasAsked}
+use Rattle.std.proofs.Common.{refl}
 
 -- as many were given as are for those that were seen
 pub notifies : (for : ℕ → ℕ) (initial waiting permits : ℕ) (p q : CondPass) → initial ≡ 0 → permits ≡ for waiting → HasSeen waiting (waits_in p) (waits_in q) → HasPlayedCount Call.Value (Answer.Number waiting) p q →
@@ -20,11 +23,17 @@ gives_none permits waiting p q h1 h2 h3 h4 h5 h6 = grind (arith, nat_tests, eqb-
 -- whether a permit was taken
 
 module _ {F W : Type 0} (g : Shared F (Bor W × (Bor ℕ × Unit {0})) WaitAction) (wait : F) (initial : ℕ) (p q : SemPass) where
-  pub slept_well : (took : Bool) → took ≡ true → HasSlept g wait initial took p q → HasTaken p q × HasPlayed initial Call.Wait Answer.Success p q
+  pub slept_well : (took : Bool) → took ≡ true → HasSlept g wait initial took p q → TakesOne initial p q
   slept_well took h1 h2 = grind (arith, nat_tests, eqb-true, eqb-false)
 
-  pub slept_in_vain : (took : Bool) → took ≡ false → HasSlept g wait initial took p q → TakesNone g wait p q × HasPlayed initial Call.Wait Answer.Interrupted p q
+  pub slept_in_vain : (took : Bool) → took ≡ false → HasSlept g wait initial took p q → TakesNone g wait initial p q
   slept_in_vain took h1 h2 = grind (arith, nat_tests, eqb-true, eqb-false)
+
+  -- what a wait for a permit came to
+  pub slept_by : (took : Bool) → MatchBool took (HasTaken p q) (WasRefused IsEmpty 10002 p q) → MatchBool took (HasPlayed initial Call.Wait Answer.Success p q) (HasPlayed initial Call.Wait Answer.Interrupted p q) →
+      (IsWhole (part_of p) → MatchBool took (0 < worth_of p) (worth_of p ≡ 0)) → (took ≡ false → MayAnswerAbort g wait IsEmpty) → (IsWhole (part_of p) → took ≡ false → HasAsked g wait IsEmpty 10001 p q) → HasSlept g wait initial took p q
+  slept_by true taken played worth aborted asked = record { came = record { taken = taken; played = played }; worth = worth }
+  slept_by false taken played worth aborted asked = record { came = record { refused = taken; aborted = aborted refl; asked = λ whole. asked whole refl; played = played }; worth = worth }
 
 pub took_or_not : (took : Bool) (A B : Type 0) → MatchBool took A B → A ⊎ B
 took_or_not took A B h1 = grind (arith, nat_tests, eqb-true, eqb-false)
@@ -35,9 +44,6 @@ took_some took n A B h1 h2 h3 = grind (arith, nat_tests, eqb-true, eqb-false)
 pub took_none : (took : Bool) (n : ℕ) (A B : Type 0) → MatchBool took A B → MatchBool took (0 < n) (n ≡ 0) → n ≡ 0 → B
 took_none true n A B is worth none = absurd (omega (arith, worth, none))
 took_none false n A B is worth none = is
-
-pub none_there : (n : ℕ) → (0 < n → ⊥) → n ≡ 0
-none_there n never = omega (arith, never)
 
 -- the mutex, which was unlocked, is locked again
 

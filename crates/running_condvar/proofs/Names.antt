@@ -2,7 +2,7 @@
 pub use Rattle.running_condvar.specs.Names.{Call, Answer, Bor, Shared, WaitAction, IsWhole, part_of, counts_of, gave, HasGivenUp, Word, Intent, Coming, MayStep, Parties, View, looked, wrote, view, parties_of, IsShare, Told, sights_after, Beginning, ComesBy, Went, Slot, all_of, min}
 pub use Rattle.running_condvar.specs.CondParties.{IsInside, IsOut, Plays}
 pub use Rattle.running_condvar.specs.Cond.{WaitsPass, both_waits, went_in, went_out, waits_after, AreWaitsIn, CountIsInside, waiters_model}
-pub use Rattle.running_condvar.specs.CondShown.{waits_in, permits_in, HasPlayedCount, HasNotified, HasGiven, TakesNone, HasSlept, HasLeft, HasRegained}
+pub use Rattle.running_condvar.specs.CondShown.{waits_in, permits_in, HasPlayedCount, HasNotified, HasGiven, TakesOne, TakesNone, HasSlept, HasLeft, HasRegained}
 pub use Rattle.running_mutex.specs.MutexShown.{MutexPass, IsLocked, HasEntered, HasUnlocked, pass_of}
 pub use Rattle.running_condvar.specs.declared.CondPass.{CondPass}
 pub use Rattle.running_model.proofs.Over.{is_over}

@@ -1,6 +1,6 @@
 -- What contracts see of a condition variable and its pass, and what a call changes in a pass.
 use Rattle.std.specs.Prelude.{◌≡◌, ◌<◌, ℕ, Bool, MatchBool, Option, Some, None}
-use Rattle.running_condvar.specs.Names.{Bor, Shared, Once, FnOnceReturnsAt, WaitAction, Part, IsWhole, HasLooked, IsSamePass, part_of, sights_of, MayAnswerAbort, HasAsked, counts_of, parties_of, Parties, HasCalled, Call, Answer, HoldKind, mutex_model, HasMoved, WasRefused, Holds, granted, released, gave, IsPassOf, HasSeen, HasDone, SemPass, IsSemPass, IsEmpty, HasTaken, worth_of, HasPlayed, HasPlayedPost}
+use Rattle.running_condvar.specs.Names.{Bor, Shared, Once, FnOnceReturnsAt, WaitAction, Part, IsWhole, HasLooked, IsSamePass, part_of, sights_of, MayAnswerAbort, HasAsked, counts_of, parties_of, Parties, HasCalled, Call, Answer, HoldKind, mutex_model, HasMoved, WasRefused, Holds, granted, released, gave, IsPassOf, HasSeen, HasDone, SemPass, IsSemPass, IsEmpty, HasTaken, worth_of, HasPlayed, HasPlayedPost, initial_of}
 use Rattle.running_passes.specs.declared.wait.WaitResult.{WaitResult}
 use Rattle.running_passes.specs.declared.wait.WaitResult.TheVariants.{Success, Interrupted}
 use Rattle.running_mutex.specs.MutexParties.{Unlocks}
@@ -11,6 +11,8 @@ use Rattle.running_condvar.specs.declared.CondResult.{CondResult}
 use Rattle.running_condvar.specs.declared.Woken.{Woken}
 use Rattle.running_condvar.specs.declared.Woken.TheVariants.{Signalled, Unsignalled}
 use Rattle.running_mutex.specs.MutexShown.{MutexPass, IsLocked, holds_of}
+use Rattle.atomic_table.specs.Seated.{TableId}
+use Rattle.running_semaphore.specs.SemaphoreShown.{IsItsWord}
 use Rattle.running_condvar.specs.Cond.{WaitsPass, one_more}
 use Rattle.running_condvar.specs.CondParties.{Plays}
 
@@ -21,8 +23,12 @@ waits_in p = p.waits
 abbrev pub permits_in : CondPass → SemPass
 permits_in p = p.permits
 
-abbrev pub IsCondPass : {A : Type 0} → ConditionVariable A → CondPass → Type 0
+abbrev pub IsCondPass : {A S : Type 0} → ConditionVariable A S → CondPass → Type 0
 IsCondPass c p = IsPassOf c.number_of_waiters (waits_in p) × IsSemPass c.semaphore (permits_in p)
+
+-- this is the word of its permits, by its object and which of that object's words it is
+abbrev pub IsPermitsWord : {A S : Type 0} → ConditionVariable A S → TableId → ℕ → Type 0
+IsPermitsWord c = IsItsWord c.semaphore
 
 -- so many were seen to wait, in one look; so many permits were given; and nothing else changed
 pub record HasGiven (permits waiting : ℕ) (p q : CondPass) : Type 0 where
@@ -77,20 +83,29 @@ pub record HasWaited (p q : CondPass) : Type 0 where
   pub counted : HasDone one_more (waits_in p) (waits_in q)
   pub played : HasPlayedCount Call.Wait Answer.Done p q
 
--- No permit was taken: none was seen in 10002 looks or more, and the wait closure may answer Abort, told 0. Where no other pass is left,
--- the looks are counted by the closure's answers.
-pub record TakesNone {F W : Type 0} (g : Shared F (Bor W × (Bor ℕ × Unit {0})) WaitAction) (wait : F) (p q : SemPass) : Type 0 where
+-- one `Wait` of a semaphore of this initial value took a permit
+pub record TakesOne (initial : ℕ) (p q : SemPass) : Type 0 where
+  pub taken : HasTaken p q
+  pub played : HasPlayed initial Call.Wait Answer.Success p q
+
+-- One took none: none was seen in 10002 looks or more, and the wait closure may answer Abort, told 0. Where no other pass is left, the looks are
+-- counted by the closure's answers.
+pub record TakesNone {F W : Type 0} (g : Shared F (Bor W × (Bor ℕ × Unit {0})) WaitAction) (wait : F) (initial : ℕ) (p q : SemPass) : Type 0 where
   pub refused : WasRefused IsEmpty 10002 p q
   pub aborted : MayAnswerAbort g wait IsEmpty
   pub asked : IsWhole (part_of p) → HasAsked g wait IsEmpty 10001 p q
+  pub played : HasPlayed initial Call.Wait Answer.Interrupted p q
 
-abbrev pub HasNotTaken : {F W : Type 0} → Shared F (Bor W × (Bor ℕ × Unit {0})) WaitAction → F → CondPass → CondPass → Type 0
-HasNotTaken g wait p q = TakesNone g wait (permits_in p) (permits_in q)
+-- so the permits of a condition variable
+abbrev pub HasTakenOne : {A S : Type 0} → ConditionVariable A S → CondPass → CondPass → Type 0
+HasTakenOne c p q = TakesOne (initial_of c.semaphore) (permits_in p) (permits_in q)
 
--- one `Wait` of a semaphore of this initial value took a permit, or none
+abbrev pub HasNotTaken : {A S F W : Type 0} → ConditionVariable A S → Shared F (Bor W × (Bor ℕ × Unit {0})) WaitAction → F → CondPass → CondPass → Type 0
+HasNotTaken c g wait p q = TakesNone g wait (initial_of c.semaphore) (permits_in p) (permits_in q)
+
+-- whether one was taken
 pub record HasSlept {F W : Type 0} (g : Shared F (Bor W × (Bor ℕ × Unit {0})) WaitAction) (wait : F) (initial : ℕ) (took : Bool) (p q : SemPass) : Type 0 where
-  pub taken : MatchBool took (HasTaken p q) (TakesNone g wait p q)
-  pub played : MatchBool took (HasPlayed initial Call.Wait Answer.Success p q) (HasPlayed initial Call.Wait Answer.Interrupted p q)
+  pub came : MatchBool took (TakesOne initial p q) (TakesNone g wait initial p q)
   pub worth : IsWhole (part_of p) → MatchBool took (0 < worth_of p) (worth_of p ≡ 0)
 
 -- the hold, which was on, went off, and is on again by one more grant

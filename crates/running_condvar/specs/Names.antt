@@ -28,8 +28,9 @@ pub use Rattle.running_passes.specs.declared.pass.Pass.{Pass}
 pub use Rattle.running_passes.specs.declared.view.View.{View}
 pub use Rattle.running_semaphore.specs.SemaphoreShown.{SemPass, IsSemPass, IsEmpty, HasTaken, worth_of, HasPlayed, HasPlayedPost, initial_of}
 pub use Rattle.running_semaphore.specs.SemaphoreSteps.{gave}
-pub use Rattle.running_tallies.specs.Mutex.{granted, released, mutex_model}
-pub use Rattle.running_tallies.specs.declared.mutex.Holds.{Holds}
+pub use Rattle.running_for_one.specs.ForOne.{granted, released}
+pub use Rattle.running_mutex.specs.Mutex.{mutex_model}
+pub use Rattle.running_for_one.specs.declared.Holds.{Holds}
 pub use Rattle.std.proofs.Common.{cond, refl, arith, zero, suc}
 pub use Rattle.std.specs.Borrow.{Bor}
 pub use Rattle.std.specs.Fn.{Shared, Once, FnOnceReturnsAt}

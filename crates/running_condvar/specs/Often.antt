@@ -15,5 +15,5 @@ abbrev pub WaitsForPermit : ℕ → SemPass → SemPass → Type 0
 WaitsForPermit initial p q = (answer : Answer ℕ) × HasPlayed initial Call.Wait answer p q
 
 -- the pass of a condition variable has waited for a permit so often, by a `Wait` each time, and made no other call of the permits
-abbrev pub HasWaitedOften : {A : Type 0} → ConditionVariable A → ℕ → CondPass → CondPass → Type 0
+abbrev pub HasWaitedOften : {A S : Type 0} → ConditionVariable A S → ℕ → CondPass → CondPass → Type 0
 HasWaitedOften c times p q = Often (WaitsForPermit (initial_of c.semaphore)) times (permits_in p) (permits_in q)

@@ -28,21 +28,20 @@ use model_condvar::permits_for;
 use model_events::WaitAction;
 use model_events::event::Wake;
 use model_waiters::WaitersPlace;
-use running_model::Stage;
 use running_model::calls::{ValueCall, WaitCall};
 use running_model::turn::{AfterAside, Goes, Turn, begin_new};
-use running_mutex::{Mutex, MutexHold, MutexPass};
+use running_model::{OfWord, OwnWords, Sealed, Shown, Shows, Stage};
+use running_mutex::{Mutex, MutexHold, MutexPass, MutexWord};
 use running_passes::{Pass, WaitResult};
-use running_semaphore::{SemPass, Semaphore};
-use running_tallies::WaitWord;
+use running_semaphore::{SemPass, Semaphore, SemaphoreWord};
 use std::alloc::{AllocError, Allocator, Global};
 use std::sync::Wait;
 
 /// A condition variable.
 #[derive(Drop)]
-pub struct ConditionVariable<A: Allocator = Global> {
+pub struct ConditionVariable<A: Allocator = Global, S = OwnWords> {
     number_of_waiters: Stage<(), WaitersScript, WaitersPlace, u64, Waits, A>,
-    semaphore: Semaphore<A>,
+    semaphore: Semaphore<A, S>,
     ghost one_word: { count_of number_of_waiters ≡ 1 },
     ghost no_permit: { initial_of semaphore ≡ 0 },
 }
@@ -104,15 +103,15 @@ impl CondPass {
     ghost use Rattle.running_passes.specs.Passes.{view, part_of};
     ghost use Rattle.running_passes.specs.Views.{left_view, right_view, joined_view};
     ghost use Rattle.running_model.specs.Passes.{core_played, both_played};
-    ghost use Rattle.running_tallies.specs.Semaphore.{no_permits, both_permits};
+    ghost use Rattle.running_semaphore.specs.Semaphore.{no_permits, both_permits};
     ghost use Rattle.running_condvar.specs.Cond.{no_waits, both_waits};
-    ghost use Rattle.running_condvar.specs.CondShown.{IsCondPass, waits_in, permits_in};
+    ghost use Rattle.running_condvar.specs.CondShown.{IsCondPass, IsPermitsWord, waits_in, permits_in};
 
     /// Two passes of the same condition variable. What they counted adds up to what this one had counted, and they weigh together what
     /// it weighed. `Err`, which never comes today, would hand the pass back.
-    pub fn split<A: Allocator>(
+    pub fn split<A: Allocator, S>(
         self,
-        of: &ConditionVariable<A>,
+        of: &ConditionVariable<A, S>,
     ) -> Result<(CondPass, CondPass), CondPass>
         requires own { IsCondPass of.now self }
         ensures never_refused { is_ok result ≡ true }
@@ -139,10 +138,10 @@ impl CondPass {
 
     /// One pass from two of the same condition variable, which counted what both did, and weighs what both weighed. `Err`, which never
     /// comes today, would hand both back.
-    pub fn join<A: Allocator>(
+    pub fn join<A: Allocator, S>(
         a: CondPass,
         b: CondPass,
-        of: &ConditionVariable<A>,
+        of: &ConditionVariable<A, S>,
     ) -> Result<CondPass, (CondPass, CondPass)>
         requires own { IsCondPass of.now a × IsCondPass of.now b }
         ensures never_refused { is_ok result ≡ true }
@@ -167,7 +166,7 @@ impl CondPass {
     }
 }
 
-impl<A: Allocator> ConditionVariable<A> {
+impl<A: Allocator, S> ConditionVariable<A, S> {
     ghost use Rattle.std.specs.Borrow.{sem};
     ghost use Rattle.std.specs.Prelude.{ℕ, List, ◌<◌, ◌⊎◌, min};
     ghost use Rattle.running_passes.specs.Answers.{IfSuccess, IfInterrupted, IsSuccess, RestsIfInterrupted, HasWoken};
@@ -178,17 +177,17 @@ impl<A: Allocator> ConditionVariable<A> {
     ghost use Rattle.running_passes.specs.Views.{first_view};
     ghost use Rattle.running_model.specs.Slots.{no_parties};
     ghost use Rattle.running_model.specs.Passes.{played};
-    ghost use Rattle.running_tallies.specs.Semaphore.{first_permits};
+    ghost use Rattle.running_semaphore.specs.Semaphore.{first_permits};
     ghost use Rattle.running_model.specs.Slots.{Slot, all_of};
     ghost use Rattle.running_condvar.specs.Cond.{no_waits, went_in, went_out, one_more};
     ghost use Rattle.running_condvar.specs.CondParties.{IsInside, IsOut, Plays};
-    ghost use Rattle.running_semaphore.specs.SemaphoreShown.{IsSemPass, worth_of, HasTaken, HasPlayed as HasPlayedPermit};
+    ghost use Rattle.running_semaphore.specs.SemaphoreShown.{IsSemPass, IsItsWord, worth_of};
     ghost use Rattle.running_mutex.specs.MutexShown.{HasPlayedUnlock};
     ghost use Rattle.running_mutex.specs.MutexShown.{mutex_row, holds_of, pass_of, borrow_of, HasUnlocked};
-    ghost use Rattle.running_condvar.specs.CondShown.{IsCondPass, waits_in, permits_in, HasGiven, HasNotified, held_by, woken_of, IfSignalled, IfUnsignalled, HasWaited, HasNotTaken, HasSlept, HasRegained, HasLeft, LeavesCounted, HasPlayedAgain};
+    ghost use Rattle.running_condvar.specs.CondShown.{IsCondPass, IsPermitsWord, waits_in, permits_in, HasGiven, HasNotified, held_by, woken_of, IfSignalled, IfUnsignalled, HasWaited, HasTakenOne, HasNotTaken, HasSlept, HasRegained, HasLeft, LeavesCounted, HasPlayedAgain};
 
     /// A condition variable at which nobody waits, and the pass that is whole. `Err` where there was no memory; then nothing was made.
-    pub fn new(alloc: A) -> Result<(ConditionVariable<A>, CondPass), AllocError>
+    pub fn new(alloc: A) -> Result<(ConditionVariable<A, S>, CondPass), AllocError>
     where
         A: Copy,
         ensures own { IfOk result (λ made. IsCondPass made.0 made.1) }
@@ -208,7 +207,13 @@ impl<A: Allocator> ConditionVariable<A> {
     /// Looks at the count of those that wait, gives one permit where it is not 0 and none where it is, and then calls the wake closure
     /// once, also for none.
     #[inline(always)]
-    pub fn notify_one<W: Fn(&WaitWord)>(&self, pass: &mut CondPass, wake_one: W)
+    pub fn notify_one<'t, W: Fn(&<S as Shows<'t, SemaphoreWord<'t>>>::As)>(
+        &'t self,
+        pass: &mut CondPass,
+        wake_one: W,
+    )
+    where
+        S: Shows<'t, SemaphoreWord<'t>>,
         requires own { IsCondPass self.now pass.old }
         requires may { W.IsAlwaysCallable wake_one }
         ensures posted { HasNotified (λ waiting. min 1 waiting) pass.old pass.new }
@@ -221,7 +226,13 @@ impl<A: Allocator> ConditionVariable<A> {
 
     /// Looks at the count of those that wait, gives as many permits, and then calls the wake closure once, also for none.
     #[inline(always)]
-    pub fn notify_all<W: Fn(&WaitWord)>(&self, pass: &mut CondPass, wake_all: W)
+    pub fn notify_all<'t, W: Fn(&<S as Shows<'t, SemaphoreWord<'t>>>::As)>(
+        &'t self,
+        pass: &mut CondPass,
+        wake_all: W,
+    )
+    where
+        S: Shows<'t, SemaphoreWord<'t>>,
         requires own { IsCondPass self.now pass.old }
         requires may { W.IsAlwaysCallable wake_all }
         ensures posted { HasNotified (λ waiting. waiting) pass.old pass.new }
@@ -238,37 +249,40 @@ impl<A: Allocator> ConditionVariable<A> {
     #[inline(always)]
     pub fn wait_held<
         'p,
+        't,
         B: Allocator,
+        Q,
         R: Wait,
-        K: Fn(&WaitWord),
-        W: Fn(&WaitWord, &u64) -> WaitAction,
-        M: Fn(&WaitWord, &u64) -> WaitAction,
+        K: Fn(&<Q as Shows<'t, MutexWord<'t>>>::As),
+        W: Fn(&<S as Shows<'t, SemaphoreWord<'t>>>::As, &u64) -> WaitAction,
+        M: Fn(&<Q as Shows<'t, MutexWord<'t>>>::As, &u64) -> WaitAction,
     >(
         hold: MutexHold<'p>,
-        this: &Self,
+        this: &'t Self,
         rt: &R,
         pass: &mut CondPass,
-        mtx: &Mutex<B>,
+        mtx: &'t Mutex<B, Q>,
         mtx_wake_one: K,
         wait: W,
         mtx_wait: M,
     ) -> WaitResult<Woken<MutexHold<'p>>>
+    where
+        S: Shows<'t, SemaphoreWord<'t>>,
+        Q: Shows<'t, MutexWord<'t>>,
         requires own { IsCondPass this.now pass.old × IsMutexPass mtx.now (pass_of hold) }
         requires may { K.IsAlwaysCallable mtx_wake_one × W.IsAlwaysCallable wait × M.IsAlwaysCallable mtx_wait }
         ensures* left { sem 𝓛 (RestsIfInterrupted mutex_row hold.entry.pass (λ woken. borrow_of (held_by woken)) result (λ q. HasLeft M.Fn mtx_wait (pass_of hold.entry) q × HasPlayedAgain answers.Interrupted None (pass_of hold.entry) q)) }
         ensures relocked { IfSuccess result (λ woken. HasPlayedAgain answers.Success (Some kinds.Write) (pass_of hold.entry) (pass_of (held_by woken))) }
-        ensures took { IfSignalled result (HasPlayedPermit (initial_of this.now.semaphore) calls.Wait answers.Success (permits_in pass.old) (permits_in pass.new)) }
-        ensures took_none { IfUnsignalled result (HasPlayedPermit (initial_of this.now.semaphore) calls.Wait answers.Interrupted (permits_in pass.old) (permits_in pass.new)) }
         ensures same_borrow { IfSuccess result (λ woken. borrow_of (held_by woken) ≡ borrow_of hold.entry) }
         ensures regained { IfSuccess result (λ woken. HasRegained (pass_of hold.entry) (pass_of (held_by woken))) }
         ensures counted { HasWaited pass.old pass.new }
-        ensures signalled { IfSignalled result (HasTaken (permits_in pass.old) (permits_in pass.new)) }
-        ensures unsignalled { IfUnsignalled result (HasNotTaken W.Fn wait pass.old pass.new) }
-        ensures gave_up { IfInterrupted result (HasTaken (permits_in pass.old) (permits_in pass.new) ⊎ HasNotTaken W.Fn wait pass.old pass.new) }
+        ensures signalled { IfSignalled result (HasTakenOne this.now pass.old pass.new) }
+        ensures unsignalled { IfUnsignalled result (HasNotTaken this.now W.Fn wait pass.old pass.new) }
+        ensures gave_up { IfInterrupted result (HasTakenOne this.now pass.old pass.new ⊎ HasNotTaken this.now W.Fn wait pass.old pass.new) }
         ensures aborted { IfInterrupted result (MayAnswerAbort M.Fn mtx_wait IsLocked) }
         ensures exact { IsWhole (part_of (pass_of hold.entry)) → IsSuccess result }
-        ensures some { IsWhole (part_of (permits_in pass.old)) → 0 < worth_of (permits_in pass.old) → HasTaken (permits_in pass.old) (permits_in pass.new) }
-        ensures none { IsWhole (part_of (permits_in pass.old)) → worth_of (permits_in pass.old) ≡ 0 → HasNotTaken W.Fn wait pass.old pass.new }
+        ensures some { IsWhole (part_of (permits_in pass.old)) → 0 < worth_of (permits_in pass.old) → HasTakenOne this.now pass.old pass.new }
+        ensures none { IsWhole (part_of (permits_in pass.old)) → worth_of (permits_in pass.old) ≡ 0 → HasNotTaken this.now W.Fn wait pass.old pass.new }
         ensures woke { HasWoken K.Fn mtx_wake_one }
     {
         let MutexHold { pass: mtx_pass } = hold;
@@ -279,7 +293,8 @@ impl<A: Allocator> ConditionVariable<A> {
             mtx,
             mtx_pass,
             mtx_wake_one,
-            wait,
+            &this.word(),
+            &wait,
         );
         if !lock_again(mtx_pass, mtx, rt, mtx_wait) {
             return WaitResult::Interrupted;
@@ -298,36 +313,39 @@ impl<A: Allocator> ConditionVariable<A> {
     #[inline(always)]
     pub fn wait<
         'p,
+        't,
         B: Allocator,
+        Q,
         R: Wait,
-        K: Fn(&WaitWord),
-        W: Fn(&WaitWord, &u64) -> WaitAction,
-        M: Fn(&WaitWord, &u64) -> WaitAction,
+        K: Fn(&<Q as Shows<'t, MutexWord<'t>>>::As),
+        W: Fn(&<S as Shows<'t, SemaphoreWord<'t>>>::As, &u64) -> WaitAction,
+        M: Fn(&<Q as Shows<'t, MutexWord<'t>>>::As, &u64) -> WaitAction,
     >(
         hold: MutexHold<'p>,
-        this: &Self,
+        this: &'t Self,
         rt: &R,
         pass: &mut CondPass,
-        mtx: &Mutex<B>,
+        mtx: &'t Mutex<B, Q>,
         mtx_wake_one: K,
         wait: W,
         mtx_wait: M,
     ) -> CondResult<MutexHold<'p>>
+    where
+        S: Shows<'t, SemaphoreWord<'t>>,
+        Q: Shows<'t, MutexWord<'t>>,
         requires own { IsCondPass this.now pass.old × IsMutexPass mtx.now (pass_of hold) }
         requires may { K.IsAlwaysCallable mtx_wake_one × W.IsAlwaysCallable wait × M.IsAlwaysCallable mtx_wait }
         ensures same_borrow { IfSuccess (woken_of result) (λ woken. borrow_of (held_by woken) ≡ borrow_of hold.entry) }
         ensures regained { IfSuccess (woken_of result) (λ woken. HasRegained (pass_of hold.entry) (pass_of (held_by woken))) }
         ensures counted { HasWaited pass.old pass.new }
         ensures relocked { IfSuccess (woken_of result) (λ woken. HasPlayedAgain answers.Success (Some kinds.Write) (pass_of hold.entry) (pass_of (held_by woken))) }
-        ensures took { IfSignalled (woken_of result) (HasPlayedPermit (initial_of this.now.semaphore) calls.Wait answers.Success (permits_in pass.old) (permits_in pass.new)) }
-        ensures took_none { IfUnsignalled (woken_of result) (HasPlayedPermit (initial_of this.now.semaphore) calls.Wait answers.Interrupted (permits_in pass.old) (permits_in pass.new)) }
-        ensures signalled { IfSignalled (woken_of result) (HasTaken (permits_in pass.old) (permits_in pass.new)) }
-        ensures unsignalled { IfUnsignalled (woken_of result) (HasNotTaken W.Fn wait pass.old pass.new) }
-        ensures gave_up { IfInterrupted (woken_of result) (HasTaken (permits_in pass.old) (permits_in pass.new) ⊎ HasNotTaken W.Fn wait pass.old pass.new) }
+        ensures signalled { IfSignalled (woken_of result) (HasTakenOne this.now pass.old pass.new) }
+        ensures unsignalled { IfUnsignalled (woken_of result) (HasNotTaken this.now W.Fn wait pass.old pass.new) }
+        ensures gave_up { IfInterrupted (woken_of result) (HasTakenOne this.now pass.old pass.new ⊎ HasNotTaken this.now W.Fn wait pass.old pass.new) }
         ensures aborted { IfInterrupted (woken_of result) (MayAnswerAbort M.Fn mtx_wait IsLocked) }
         ensures exact { IsWhole (part_of (pass_of hold.entry)) → IsSuccess (woken_of result) }
-        ensures some { IsWhole (part_of (permits_in pass.old)) → 0 < worth_of (permits_in pass.old) → HasTaken (permits_in pass.old) (permits_in pass.new) }
-        ensures none { IsWhole (part_of (permits_in pass.old)) → worth_of (permits_in pass.old) ≡ 0 → HasNotTaken W.Fn wait pass.old pass.new }
+        ensures some { IsWhole (part_of (permits_in pass.old)) → 0 < worth_of (permits_in pass.old) → HasTakenOne this.now pass.old pass.new }
+        ensures none { IsWhole (part_of (permits_in pass.old)) → worth_of (permits_in pass.old) ≡ 0 → HasNotTaken this.now W.Fn wait pass.old pass.new }
         ensures woke { HasWoken K.Fn mtx_wake_one }
     {
         CondResult::from(Self::wait_held(hold, this, rt, pass, mtx, mtx_wake_one, wait, mtx_wait))
@@ -340,25 +358,33 @@ impl<A: Allocator> ConditionVariable<A> {
     /// lock is free sees the wait. The lock is the caller's to take again.
     #[inline(always)]
     pub fn wait_around<
+        X: Shown,
         R: Wait,
         Y,
         F: FnOnce(&CountedWait<'_>) -> Y,
-        W: Fn(&WaitWord, &u64) -> WaitAction,
-    >(&self, rt: &R, cond_pass: &mut CondPass, leave: F, wait: W) -> (Y, WaitResult<()>)
+        W: Fn(&X, &u64) -> WaitAction,
+    >(
+        &self,
+        rt: &R,
+        cond_pass: &mut CondPass,
+        leave: F,
+        word: &Sealed<X>,
+        wait: &W,
+    ) -> (Y, WaitResult<()>)
         requires own { IsCondPass self.now cond_pass.old }
-        requires may { F.IsAlwaysCallable leave × W.IsAlwaysCallable wait }
+        requires its { IsPermitsWord self.now (X.object word.now.shown) (X.index word.now.shown) }
+        requires may { F.IsAlwaysCallable leave × W.IsAlwaysCallable wait.now }
         ensures left { LeavesCounted F.FnOnce leave result.0 }
         ensures counted { HasWaited cond_pass.old cond_pass.new }
-        ensures signalled { IfSuccess result.1 (λ _. HasTaken (permits_in cond_pass.old) (permits_in cond_pass.new)) }
-        ensures unsignalled { IfInterrupted result.1 (HasNotTaken W.Fn wait cond_pass.old cond_pass.new) }
-        ensures took { IfSuccess result.1 (λ _. HasPlayedPermit (initial_of self.now.semaphore) calls.Wait answers.Success (permits_in cond_pass.old) (permits_in cond_pass.new)) }
-        ensures took_none { IfInterrupted result.1 (HasPlayedPermit (initial_of self.now.semaphore) calls.Wait answers.Interrupted (permits_in cond_pass.old) (permits_in cond_pass.new)) }
+        ensures signalled { IfSuccess result.1 (λ _. HasTakenOne self.now cond_pass.old cond_pass.new) }
+        ensures unsignalled { IfInterrupted result.1 (HasNotTaken self.now W.Fn wait.now cond_pass.old cond_pass.new) }
     {
         let (left, signalled) = self.leave_and_sleep(
             rt,
             &mut cond_pass.waits,
             &mut cond_pass.permits,
             leave,
+            word,
             wait,
         );
         if signalled {
@@ -368,64 +394,82 @@ impl<A: Allocator> ConditionVariable<A> {
         }
     }
 
+    /// The word of the permits, as wait closures see it, sealed.
+    #[inline(always)]
+    pub fn word<'t, X: OfWord<SemaphoreWord<'t>>>(&'t self) -> Sealed<X>
+        ensures its { IsPermitsWord self.now (X.Shown.object result.shown) (X.Shown.index result.shown) }
+    {
+        self.semaphore.word()
+    }
+
     /// What `wait_around` does, and whether a permit was taken.
     #[inline(always)]
     fn leave_and_sleep<
+        X: Shown,
         R: Wait,
         Y,
         F: FnOnce(&CountedWait<'_>) -> Y,
-        W: Fn(&WaitWord, &u64) -> WaitAction,
+        W: Fn(&X, &u64) -> WaitAction,
     >(
         &self,
         rt: &R,
         waits: &mut Pass<PlayedWaits>,
         permits: &mut SemPass,
         leave: F,
-        wait: W,
+        word: &Sealed<X>,
+        wait: &W,
     ) -> (Y, bool)
         requires own { IsPassOf self.now.number_of_waiters waits.old × IsSemPass self.now.semaphore permits.old }
-        requires may { F.IsAlwaysCallable leave × W.IsAlwaysCallable wait }
+        requires its { IsItsWord self.now.semaphore (X.object word.now.shown) (X.index word.now.shown) }
+        requires may { F.IsAlwaysCallable leave × W.IsAlwaysCallable wait.now }
         ensures left { LeavesCounted F.FnOnce leave result.0 }
         ensures counted { HasDone one_more waits.old waits.new }
         ensures played { Plays calls.Wait answers.Done (parties_of waits.old) (parties_of waits.new) }
-        ensures slept { HasSlept W.Fn wait (initial_of self.now.semaphore) result.1 permits.old permits.new }
+        ensures slept { HasSlept W.Fn wait.now (initial_of self.now.semaphore) result.1 permits.old permits.new }
     {
         let counted = self.count_in(waits);
         let left = leave(&CountedWait { turn: &counted });
-        let (signalled, _waits) = self.sleep(rt, counted, permits, wait);
+        let (signalled, _waits) = self.sleep(rt, counted, permits, word, wait);
         (left, signalled)
     }
 
     /// What `wait_held` does until it locks the mutex again, and whether a permit was taken.
     fn unlock_and_sleep<
+        't,
         B: Allocator,
+        Q,
+        X: Shown,
         R: Wait,
-        K: Fn(&WaitWord),
-        W: Fn(&WaitWord, &u64) -> WaitAction,
+        K: Fn(&<Q as Shows<'t, MutexWord<'t>>>::As),
+        W: Fn(&X, &u64) -> WaitAction,
     >(
         &self,
         rt: &R,
         waits: &mut Pass<PlayedWaits>,
         permits: &mut SemPass,
-        mtx: &Mutex<B>,
+        mtx: &'t Mutex<B, Q>,
         mtx_pass: &mut MutexPass,
         mtx_wake_one: K,
-        wait: W,
+        word: &Sealed<X>,
+        wait: &W,
     ) -> bool
+    where
+        Q: Shows<'t, MutexWord<'t>>,
         requires own { IsPassOf self.now.number_of_waiters waits.old × IsSemPass self.now.semaphore permits.old × IsMutexPass mtx.now mtx_pass.old }
         requires on { holds_of mtx_pass.old ≡ 1 }
         requires has { HasMutex (parties_of mtx_pass.old) }
-        requires may { K.IsAlwaysCallable mtx_wake_one × W.IsAlwaysCallable wait }
+        requires its { IsItsWord self.now.semaphore (X.object word.now.shown) (X.index word.now.shown) }
+        requires may { K.IsAlwaysCallable mtx_wake_one × W.IsAlwaysCallable wait.now }
         ensures unlocked { HasUnlocked mtx_pass.old mtx_pass.new }
         ensures played_unlock { HasPlayedUnlock mtx_pass.old mtx_pass.new }
         ensures counted { HasDone one_more waits.old waits.new }
         ensures played { Plays calls.Wait answers.Done (parties_of waits.old) (parties_of waits.new) }
-        ensures slept { HasSlept W.Fn wait (initial_of self.now.semaphore) result permits.old permits.new }
+        ensures slept { HasSlept W.Fn wait.now (initial_of self.now.semaphore) result permits.old permits.new }
         ensures woke { HasWoken K.Fn mtx_wake_one }
     {
         let inside = self.count_in(waits);
         mtx.unlock(MutexHold { pass: mtx_pass }, mtx_wake_one);
-        let (signalled, _outside) = self.sleep(rt, inside, permits, wait);
+        let (signalled, _outside) = self.sleep(rt, inside, permits, word, wait);
         signalled
     }
 
@@ -459,28 +503,30 @@ impl<A: Allocator> ConditionVariable<A> {
     /// Waits for a permit, as the counted wait is to do until it is counted out, and counts it out. Whether a permit was taken, and the pass of
     /// the count.
     #[inline(always)]
-    fn sleep<'p, R: Wait, W: Fn(&WaitWord, &u64) -> WaitAction>(
+    fn sleep<'p, X: Shown, R: Wait, W: Fn(&X, &u64) -> WaitAction>(
         &self,
         rt: &R,
         counted: Turn<'p, Pass<PlayedWaits>, Goes>,
         permits: &mut SemPass,
-        wait: W,
+        word: &Sealed<X>,
+        wait: &W,
     ) -> (bool, &'p mut Pass<PlayedWaits>)
         requires own { IsPassOf self.now.number_of_waiters counted.pass.now × IsSemPass self.now.semaphore permits.old }
         requires inside { (done : List (Slot ℕ)) × IsInside done (parties_of counted.pass.now) }
-        requires may { W.IsAlwaysCallable wait }
+        requires its { IsItsWord self.now.semaphore (X.object word.now.shown) (X.index word.now.shown) }
+        requires may { W.IsAlwaysCallable wait.now }
         ensures same_borrow { result.1.ghost_name ≡ counted.entry.pass.ghost_name }
         ensures counted { HasDone went_out counted.entry.pass.now result.1.now }
         ensures out { (done : List (Slot ℕ)) → IsInside done (parties_of counted.entry.pass.now) → IsOut done (parties_of result.1.now) }
-        ensures slept { HasSlept W.Fn wait (initial_of self.now.semaphore) result.0 permits.old permits.new }
+        ensures slept { HasSlept W.Fn wait.now (initial_of self.now.semaphore) result.0 permits.old permits.new }
     {
         let (signalled, slept) = counted.run(
             &self.number_of_waiters,
             permits,
             |permits: &mut SemPass| -> bool
-                requires { IsSemPass self.now.semaphore permits.old × W.IsAlwaysCallable wait }
-                ensures { HasSlept W.Fn wait (initial_of self.entry.now.semaphore) result permits.old permits.new }
-            { self.take(rt, permits, wait) },
+                requires { IsSemPass self.now.semaphore permits.old × IsItsWord self.now.semaphore (X.object word.now.shown) (X.index word.now.shown) × W.IsAlwaysCallable wait.now }
+                ensures { HasSlept W.Fn wait.entry.now (initial_of self.entry.now.semaphore) result permits.old permits.new }
+            { self.take(rt, permits, word, wait) },
         );
         (signalled, self.count_out(slept))
     }
@@ -503,31 +549,33 @@ impl<A: Allocator> ConditionVariable<A> {
 
     /// The semaphore's `wait`, and whether a permit was taken.
     #[inline(always)]
-    fn take<R: Wait, W: Fn(&WaitWord, &u64) -> WaitAction>(
+    fn take<X: Shown, R: Wait, W: Fn(&X, &u64) -> WaitAction>(
         &self,
         rt: &R,
         permits: &mut SemPass,
-        wait: W,
+        word: &Sealed<X>,
+        wait: &W,
     ) -> bool
         requires own { IsSemPass self.now.semaphore permits.old }
-        requires may { W.IsAlwaysCallable wait }
-        ensures slept { HasSlept W.Fn wait (initial_of self.now.semaphore) result permits.old permits.new }
+        requires its { IsItsWord self.now.semaphore (X.object word.now.shown) (X.index word.now.shown) }
+        requires may { W.IsAlwaysCallable wait.now }
+        ensures slept { HasSlept W.Fn wait.now (initial_of self.now.semaphore) result permits.old permits.new }
     {
-        match self.semaphore.wait(rt, permits, wait) {
-            WaitResult::Success(()) => true,
-            WaitResult::Interrupted => false,
-        }
+        self.semaphore.enter(rt, permits, word, wait)
     }
 }
 
 /// Locks the mutex, and tells whether it is locked.
 #[inline(always)]
-fn lock_again<A: Allocator, R: Wait, M: Fn(&WaitWord, &u64) -> WaitAction>(
-    pass: &mut MutexPass,
-    mtx: &Mutex<A>,
-    rt: &R,
-    mtx_wait: M,
-) -> bool
+fn lock_again<
+    't,
+    A: Allocator,
+    Q,
+    R: Wait,
+    M: Fn(&<Q as Shows<'t, MutexWord<'t>>>::As, &u64) -> WaitAction,
+>(pass: &mut MutexPass, mtx: &'t Mutex<A, Q>, rt: &R, mtx_wait: M) -> bool
+where
+    Q: Shows<'t, MutexWord<'t>>,
     requires own { IsMutexPass mtx.now pass.old }
     requires may { M.IsAlwaysCallable mtx_wait }
     ensures locked { MatchBool result (HasEntered pass.old pass.new) (HasGivenUp M.Fn mtx_wait IsLocked pass.old pass.new) }

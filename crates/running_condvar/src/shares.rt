@@ -5,7 +5,7 @@ use crate::{CondPass, ConditionVariable};
 use running_sharing::Shares;
 use std::alloc::Allocator;
 
-impl<A: Allocator> Shares<ConditionVariable<A>> for CondPass {
+impl<A: Allocator, S> Shares<ConditionVariable<A, S>> for CondPass {
     ghost use Rattle.running_passes.specs.Passes.{part_of};
     ghost use Rattle.running_condvar.specs.CondShown.{IsCondPass, waits_in, permits_in};
 
@@ -14,14 +14,14 @@ impl<A: Allocator> Shares<ConditionVariable<A>> for CondPass {
 
     ghost part = { λ p. part_of (waits_in p) };
 
-    fn cut(self, of: &ConditionVariable<A>) -> (CondPass, CondPass) {
+    fn cut(self, of: &ConditionVariable<A, S>) -> (CondPass, CondPass) {
         let Ok(parts) = self.split(of) else {
             unreachable!()
         };
         parts
     }
 
-    fn mend(one: CondPass, other: CondPass, of: &ConditionVariable<A>) -> CondPass {
+    fn mend(one: CondPass, other: CondPass, of: &ConditionVariable<A, S>) -> CondPass {
         let Ok(pass) = CondPass::join(one, other, of) else {
             unreachable!()
         };

@@ -19,11 +19,11 @@ pub use Rattle.model_events.specs.declared.event.Answer.{Answer}
 pub use Rattle.model_events.specs.declared.event.Call.{Call}
 pub use Rattle.model_events.specs.declared.hold.HoldKind.{HoldKind}
 pub use Rattle.model_mutex.specs.declared.MutexPlace.{MutexPlace}
-pub use Rattle.running_tallies.specs.Mutex.{mutex_model}
+pub use Rattle.running_mutex.specs.Mutex.{mutex_model}
 pub use Rattle.running_passes.specs.declared.wait.WaitResult.{WaitResult}
 pub use Rattle.running_passes.specs.declared.wait.WaitResult.TheVariants.{Success, Interrupted}
 pub use Rattle.running_passes.specs.declared.view.View.{View}
-pub use Rattle.running_tallies.specs.declared.mutex.MutexScript.{MutexScript}
+pub use Rattle.running_mutex.specs.declared.script.MutexScript.{MutexScript}
 pub use Rattle.running_mutex.specs.MutexSteps.{PlayedMutex}
 pub use Rattle.running_passes.specs.declared.part.Part.{Part}
 pub use Rattle.running_passes.specs.declared.part.Sights.{Sights}

@@ -6,8 +6,8 @@ ghost use Rattle.running_mutex.specs.MutexParties.{HasMutex};
 use crate::guarded::Guarded;
 use crate::pass::GuardedPass;
 use atomic_table::Seat;
+use running_mutex::PlayedMutex;
 use running_passes::View;
-use running_tallies::PlayedMutex;
 use std::alloc::{Allocator, Global};
 use std::ops::{Deref, DerefMut};
 

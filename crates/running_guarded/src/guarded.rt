@@ -10,7 +10,7 @@ ghost use Rattle.model_events.specs.declared.hold.HoldKind.TheVariants as kinds;
 ghost use Rattle.model_events.specs.declared.row.Intent.TheVariants as intents;
 ghost use Rattle.model_events.specs.declared.WaitAction.TheVariants as actions;
 ghost use Rattle.model_mutex.specs.declared.MutexPlace.TheVariants as places;
-ghost use Rattle.running_tallies.specs.Mutex.{mutex_model};
+ghost use Rattle.running_mutex.specs.Mutex.{mutex_model};
 ghost use Rattle.running_model.specs.Slots.{Slot};
 ghost use Rattle.running_model.specs.Plays.{Beginning, MayStep};
 ghost use Rattle.running_model.specs.Tries.{spun, IsRefused, IsStanding, IsGranted, HasGivenUp as HasEndedRefused, OnceRefused, OnceStanding};
@@ -31,10 +31,10 @@ use running_model::Sealed;
 use running_model::calls::{LockCall, TryLockCall, UnlockCall};
 use running_model::seat::{SeatAnswered, SeatTurn, begin_new};
 use running_model::turn::{Called, Goes, Way};
+use running_mutex::{MutexScript, PlayedMutex};
 use running_passes::{View, WaitResult};
 use running_spin_lock::ValueRule;
 use running_spin_lock::slot::{self, FREE, LOCKED};
-use running_tallies::{MutexScript, PlayedMutex};
 use std::alloc::{AllocError, Allocator, Global};
 use std::hint::spin_loop;
 use std::sync::Wait;
@@ -234,7 +234,7 @@ impl<T, A: Allocator> Guarded<T, A> {
     {
         let shared = &self.table.shared;
         let turn = slot::release::<T, MutexScript, MutexPlace, UnlockCall>(shared, seat, value);
-        let woken = turn.wake(&self.word(), wake_one);
+        let (woken, _wake_one) = turn.wake(&self.word(), wake_one);
         woken.end_aside()
     }
 

@@ -4,13 +4,13 @@ ghost use Rattle.running_passes.specs.declared.part.Part.{Part};
 ghost use Rattle.running_passes.specs.Parts.{half, IsAgain, IsSamePart, AddUp};
 ghost use Rattle.running_passes.specs.Views.{left_view, right_view, joined_view, spent_view};
 ghost use Rattle.running_model.specs.Passes.{core_played};
-ghost use Rattle.running_tallies.specs.Mutex.{no_holds};
+ghost use Rattle.running_for_one.specs.ForOne.{no_holds};
 ghost use Rattle.running_spin_lock.specs.ValueRule.{none_held, both_held, view_in};
 
 use crate::guarded::Guarded;
 use atomic_table::{Badge, Join, Seat, Split};
+use running_mutex::PlayedMutex;
 use running_passes::View;
-use running_tallies::PlayedMutex;
 use std::alloc::Allocator;
 use std::mem;
 

@@ -3,7 +3,7 @@ ghost use Rattle.std.specs.Prelude.{◌≡◌, ℕ, suc, ◌<◌, ◌≤◌, ◌
 ghost use Rattle.running_passes.specs.Answers.{IfInterrupted, MayAnswerAbort, HasWoken};
 ghost use Rattle.running_semaphore.specs.SemaphoreShown.{IsEmpty};
 ghost use Rattle.running_mutex.specs.MutexParties.{HasMutex};
-ghost use Rattle.running_condvar.specs.CondShown.{IsCondPass, HasNotified, HasStayed as HasWaitedAtMost};
+ghost use Rattle.running_condvar.specs.CondShown.{IsCondPass, IsPermitsWord, HasNotified, HasStayed as HasWaitedAtMost};
 ghost use Rattle.running_condvar.specs.Often.{HasWaitedOften};
 ghost use Rattle.running_spin_lock.specs.ValueSteps.{Lets, has_vacant_slot};
 ghost use Rattle.running_guarded.specs.GuardedSteps.{Acts, PlaysUnlock, PlaysBoth};
@@ -16,8 +16,10 @@ use crate::word::GuardedWord;
 use atomic_table::Seat;
 use model_events::WaitAction;
 use running_condvar::{CondPass, ConditionVariable, CountedWait};
+use running_model::{Sealed, Shown, Shows};
+use running_mutex::PlayedMutex;
 use running_passes::{View, WaitResult};
-use running_tallies::{PlayedMutex, WaitWord};
+use running_semaphore::SemaphoreWord;
 use std::alloc::Allocator;
 use std::sync::Wait;
 
@@ -39,22 +41,26 @@ impl<T: Drop, A: Allocator> Guarded<T, A> {
     /// The lock is waited for by yielding, without end; `wake_one` is called at each unlock. Nobody is notified: that is the caller's to
     /// do, at the condition variable of those that wait for what it did.
     pub fn when<
+        't,
         X,
         B: Allocator,
+        S,
         R: Wait,
         K: Fn(&GuardedWord<'_, T>),
-        W: Fn(&WaitWord, &u64) -> WaitAction,
+        W: Fn(&<S as Shows<'t, SemaphoreWord<'t>>>::As, &u64) -> WaitAction,
         F: FnMut(&mut T) -> Option<X>,
     >(
         &self,
         rt: &R,
         pass: &mut GuardedPass,
         wake_one: K,
-        changed: &ConditionVariable<B>,
+        changed: &'t ConditionVariable<B, S>,
         changed_pass: &mut CondPass,
         wait: W,
         act: F,
     ) -> WaitResult<X>
+    where
+        S: Shows<'t, SemaphoreWord<'t>>,
         requires own { IsGuardedPass self.now pass.old × IsCondPass changed.now changed_pass.old }
         requires may { K.IsAlwaysCallable wake_one × W.IsAlwaysCallable wait × F.IsAlwaysCallable act }
         ensures stayed { HasStayed pass.old pass.new }
@@ -64,9 +70,19 @@ impl<T: Drop, A: Allocator> Guarded<T, A> {
         ensures looked_again { IfInterrupted result (grants_of pass.old + 2 ≤ grants_of pass.new) }
         ensures woke { HasWoken K.Fn wake_one }
     {
+        let word = changed.word();
         let mut act = act;
         for _ in rt.forever() {
-            match self.look(rt, pass, &wake_one, changed, changed_pass, &wait, &mut act) {
+            match self.look(
+                rt,
+                pass,
+                &wake_one,
+                changed,
+                changed_pass,
+                &word,
+                &wait,
+                &mut act,
+            ) {
                 Looked::Acted(given) => return WaitResult::Success(given),
                 Looked::Again => {}
                 Looked::GaveUp => return self.look_last(rt, pass, &wake_one, &mut act),
@@ -80,22 +96,26 @@ impl<T: Drop, A: Allocator> Guarded<T, A> {
     /// The lock is waited for by yielding, without end. `wake_one` is called at the unlock, and `wake_all` once after the notify, also where
     /// nobody waits.
     pub fn change<
+        't,
         X,
         B: Allocator,
+        S,
         R: Wait,
         K: Fn(&GuardedWord<'_, T>),
-        N: Fn(&WaitWord),
+        N: Fn(&<S as Shows<'t, SemaphoreWord<'t>>>::As),
         F: FnOnce(&mut T) -> X,
     >(
         &self,
         rt: &R,
         pass: &mut GuardedPass,
         wake_one: K,
-        changed: &ConditionVariable<B>,
+        changed: &'t ConditionVariable<B, S>,
         changed_pass: &mut CondPass,
         wake_all: N,
         act: F,
     ) -> X
+    where
+        S: Shows<'t, SemaphoreWord<'t>>,
         requires own { IsGuardedPass self.now pass.old × IsCondPass changed.now changed_pass.old }
         requires may { K.IsAlwaysCallable wake_one × N.IsAlwaysCallable wake_all × F.IsAlwaysCallable act }
         ensures stayed { HasStayed pass.old pass.new }
@@ -118,21 +138,25 @@ impl<T: Drop, A: Allocator> Guarded<T, A> {
     fn look<
         X,
         B: Allocator,
+        S,
+        Y: Shown,
         R: Wait,
         K: Fn(&GuardedWord<'_, T>),
-        W: Fn(&WaitWord, &u64) -> WaitAction,
+        W: Fn(&Y, &u64) -> WaitAction,
         F: FnMut(&mut T) -> Option<X>,
     >(
         &self,
         rt: &R,
         pass: &mut GuardedPass,
         wake_one: &K,
-        changed: &ConditionVariable<B>,
+        changed: &ConditionVariable<B, S>,
         changed_pass: &mut CondPass,
+        word: &Sealed<Y>,
         wait: &W,
         act: &mut F,
     ) -> Looked<X>
         requires own { IsGuardedPass self.now pass.old × IsCondPass changed.now changed_pass.old }
+        requires its { IsPermitsWord changed.now (Y.object word.now.shown) (Y.index word.now.shown) }
         requires may { K.IsAlwaysCallable wake_one.now × W.IsAlwaysCallable wait.now × F.IsAlwaysCallable act.old }
         ensures callable { F.IsAlwaysCallable act.new }
         ensures stayed { HasStayed pass.old pass.new }
@@ -158,6 +182,7 @@ impl<T: Drop, A: Allocator> Guarded<T, A> {
                     wake_one,
                     changed,
                     changed_pass,
+                    word,
                     wait,
                 );
                 *pass = left;
@@ -173,22 +198,26 @@ impl<T: Drop, A: Allocator> Guarded<T, A> {
     /// Lets the value go, and waits once; whether a notify came.
     fn sleep<
         B: Allocator,
+        S,
+        Y: Shown,
         R: Wait,
         K: Fn(&GuardedWord<'_, T>),
-        W: Fn(&WaitWord, &u64) -> WaitAction,
+        W: Fn(&Y, &u64) -> WaitAction,
     >(
         &self,
         rt: &R,
         seat: Seat<Option<T>, View<PlayedMutex>>,
         value: T,
         wake_one: &K,
-        changed: &ConditionVariable<B>,
+        changed: &ConditionVariable<B, S>,
         changed_pass: &mut CondPass,
+        word: &Sealed<Y>,
         wait: &W,
     ) -> (GuardedPass, bool)
         requires own { (seat.table_id ≡ id_of self.now) × IsCondPass changed.now changed_pass.old }
         requires has { (seat.me.0.tally.counts.holds ≡ 1) × HasMutex seat.me.0.tally.parties }
         requires there { 0 < seat.me.0.part.share × (has_vacant_slot seat.me.1 ≡ true) }
+        requires its { IsPermitsWord changed.now (Y.object word.now.shown) (Y.index word.now.shown) }
         requires may { K.IsAlwaysCallable wake_one.now × W.IsAlwaysCallable wait.now }
         ensures same { (object_of result.0 ≡ seat.table_id) × (number_of result.0 ≡ seat.id) }
         ensures off { Lets seat.me.0 (view result.0) }
@@ -205,10 +234,8 @@ impl<T: Drop, A: Allocator> Guarded<T, A> {
                 requires { (seat.table_id ≡ id_of self.now) × (seat.me.0.tally.counts.holds ≡ 1) × HasMutex seat.me.0.tally.parties × 0 < seat.me.0.part.share × (has_vacant_slot seat.me.1 ≡ true) × K.IsAlwaysCallable wake_one.now }
                 ensures { (object_of result ≡ seat.table_id) × (number_of result ≡ seat.id) × Lets seat.me.0 (view result) × PlaysUnlock seat.me.0 (view result) × HasWoken K.Fn wake_one.entry.now }
             { self.sit(seat, value, wake_one) },
-            |word: &WaitWord, seen: &u64| -> WaitAction
-                requires { W.IsAlwaysCallable wait.now }
-                ensures { W.post wait.entry.now word.entry seen.entry result }
-            { wait(word, seen) },
+            word,
+            wait,
         );
         match slept {
             WaitResult::Success(()) => (left, true),

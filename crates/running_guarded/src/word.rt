@@ -3,9 +3,9 @@ ghost use Rattle.std.specs.Prelude.{◌≡◌};
 
 use atomic_table::Shared;
 use running_model::{Sealed, Shown};
+use running_mutex::PlayedMutex;
 use running_passes::{View, Watched, low_half};
 use running_spin_lock::ValueRule;
-use running_tallies::PlayedMutex;
 use std::sync::Wait;
 use std::time::Duration;
 

@@ -14,3 +14,4 @@ pub mod Patience
 pub mod Holding
 pub mod OfARun
 pub mod Over
+pub mod Questions

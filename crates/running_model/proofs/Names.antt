@@ -11,7 +11,7 @@ pub use Rattle.running_model.specs.Words.{IsAside, IsOnNoWord, on_no_word, AreAp
 pub use Rattle.running_model.specs.declared.played.Played.{Played}
 pub use Rattle.model_events.proofs.Holds.{eqb_other, hold_of_same, hold_of_other, eqb_same, call_of_same, some_same}
 pub use Rattle.model_events.proofs.Steps.{carried_is_step, carried_goes_on, carried_stage}
-pub use Rattle.running_passes.proofs.Attempts.{read_twice, read_and_written, not_asked, goes_on, has_asked, told_of_its_kind, HasGoneOn, asked_later}
+pub use Rattle.running_passes.proofs.Attempts.{read_twice, read_and_written}
 pub use Rattle.std.proofs.Common.{◌≡◌, ℕ, refl, Option, None, arith, ◌+◌, ◌≤◌, Bool, MatchBool, sym, subst, ◌<◌, List, [], set, get_or, zero, suc, ap, true, ◌∷◌, Some, cond, ◌≢◌, ◌==◌, ◌∙◌, false, ◌⊎◌, inl, inr, length}
-pub use Rattle.std.proofs.lemmas.Bool.{eqb-true, eqb-false, ne_eqb, false≢true}
+pub use Rattle.std.proofs.lemmas.Bool.{eqb-true, eqb-false, ne_eqb, false≢true, true≢false}
 pub use Rattle.std.proofs.lemmas.Bool.Decides.{nat_tests, eqb_tells}

@@ -14,3 +14,6 @@ pub mod Sums
 pub mod Turns
 pub mod Sees
 pub mod Choices
+pub mod Shown
+pub mod CountLists
+pub mod Asked

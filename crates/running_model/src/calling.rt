@@ -1,6 +1,7 @@
 //! How a call under way calls its closures, and how it is over.
 ghost use Rattle.std.specs.Prelude.{◌≡◌};
-ghost use Rattle.std.specs.Fn.{FnReturnsAt, FnOnceTakesAtMut, FnOnceReturnsAtMut};
+ghost use Rattle.std.specs.Fn.{FnOnceTakesAtMut, FnOnceReturnsAtMut, CalledAt};
+ghost use Rattle.running_model.specs.Asked.{AskedOnce};
 ghost use Rattle.running_passes.specs.Answers.{MayAnswer};
 ghost use Rattle.running_model.specs.Passes.{parties_of};
 ghost use Rattle.running_model.specs.Stages.{IsPassOf, id_of, key_of};
@@ -74,32 +75,33 @@ impl<'p, M, P, V, C> Turn<'p, Pass<Played<M, P, V, C>>, Goes> {
         }
     }
 
-    /// Calls the wake closure that the call is to call next, of the word that the model names for that place.
+    /// Calls the wake closure that the call is to call next, once, of the word that the model names for that place. Gives the closure back.
     #[inline(always)]
-    pub fn wake<K, A: Allocator, X: Shown, W: Fn(&X)>(
+    pub fn wake<K, A: Allocator, X: Shown, W: FnMut(&X)>(
         self,
         at: &Stage<K, M, P, V, C, A>,
         word: &Sealed<X>,
-        wake: &W,
-    ) -> Turn<'p, Pass<Played<M, P, V, C>>, AfterAside>
+        wake: W,
+    ) -> (Turn<'p, Pass<Played<M, P, V, C>>, AfterAside>, W)
     where
         M: Script<K, P, V>,
         C: Counts<K, V>,
         requires own { IsPassOf at.now self.pass.now }
         requires word { X.object word.now.shown ≡ id_of at.now }
         requires wakes { IsToWake (M.model (key_of at.now)) M.names M.handed (X.index word.now.shown) (parties_of self.pass.now) }
-        requires may { W.IsAlwaysCallable wake.now }
-        ensures same_borrow { result.pass.ghost_name ≡ self.entry.pass.ghost_name }
-        ensures still { result.pass.now ≡ self.entry.pass.now }
-        ensures woke { FnReturnsAt W.Fn wake.now word.now.shown tt }
+        requires may { W.IsAlwaysCallable wake }
+        ensures same_borrow { result.0.pass.ghost_name ≡ self.entry.pass.ghost_name }
+        ensures still { result.0.pass.now ≡ self.entry.pass.now }
+        ensures woke { CalledAt W.FnMut wake word.now.shown tt result.1 }
     {
         let _at = at;
         let Turn { pass, by: _ } = self;
-        call(wake, &word.shown);
-        Turn {
+        let woken = call(wake, &word.shown);
+        let next = Turn {
             pass,
             by: PhantomData,
-        }
+        };
+        (next, woken)
     }
 
     /// Calls the closure that the call is to end next, which is lent `on`, and answers what it gave.
@@ -151,32 +153,34 @@ impl<'p, M, P, V, C> Turn<'p, Pass<Played<M, P, V, C>>, Goes> {
 }
 
 impl<'p, M, P, V, C> Turn<'p, Pass<Played<M, P, V, C>>, AfterAside> {
-    /// Calls the wake closure that the call is to call next, once it has called another, of the word that the model names for that place.
+    /// Calls the wake closure that the call is to call next, once it has called another: once, of the word that the model
+    /// names for that place. Gives the closure back.
     #[inline(always)]
-    pub fn wake_again<K, A: Allocator, X: Shown, W: Fn(&X)>(
+    pub fn wake_again<K, A: Allocator, X: Shown, W: FnMut(&X)>(
         self,
         at: &Stage<K, M, P, V, C, A>,
         word: &Sealed<X>,
-        second: &W,
-    ) -> Turn<'p, Pass<Played<M, P, V, C>>, AfterTwo>
+        second: W,
+    ) -> (Turn<'p, Pass<Played<M, P, V, C>>, AfterTwo>, W)
     where
         M: Script<K, P, V>,
         C: Counts<K, V>,
         requires own { IsPassOf at.now self.pass.now }
         requires word { X.object word.now.shown ≡ id_of at.now }
         requires wakes { IsToWakeAgain (M.model (key_of at.now)) M.names M.handed (X.index word.now.shown) (parties_of self.pass.now) }
-        requires may { W.IsAlwaysCallable second.now }
-        ensures same_borrow { result.pass.ghost_name ≡ self.entry.pass.ghost_name }
-        ensures still { result.pass.now ≡ self.entry.pass.now }
-        ensures woke { FnReturnsAt W.Fn second.now word.now.shown tt }
+        requires may { W.IsAlwaysCallable second }
+        ensures same_borrow { result.0.pass.ghost_name ≡ self.entry.pass.ghost_name }
+        ensures still { result.0.pass.now ≡ self.entry.pass.now }
+        ensures woke { CalledAt W.FnMut second word.now.shown tt result.1 }
     {
         let _at = at;
         let Turn { pass, by: _ } = self;
-        call(second, &word.shown);
-        Turn {
+        let woken = call(second, &word.shown);
+        let next = Turn {
             pass,
             by: PhantomData,
-        }
+        };
+        (next, woken)
     }
 
     /// The call has been answered, once it has woken, or its closure has ended. Gives the pass back.
@@ -220,20 +224,29 @@ impl<'p, M, P, V, C> Turn<'p, Pass<Played<M, P, V, C>>, AfterTwo> {
     }
 }
 
-/// Calls a wake closure, of this word.
+/// Calls a wake closure, once, of this word. Gives it back.
 #[inline(always)]
-pub(crate) fn call<X, W: Fn(&X)>(wake: &W, word: &X)
-    requires may { W.IsAlwaysCallable wake.now }
-    ensures woke { FnReturnsAt W.Fn wake.now word.now tt }
+pub(crate) fn call<X, W: FnMut(&X)>(wake: W, word: &X) -> W
+    requires may { W.IsAlwaysCallable wake }
+    ensures woke { CalledAt W.FnMut wake word.now tt result }
 {
-    wake(word);
+    let mut woken = wake;
+    woken(word);
+    woken
 }
 
-/// Calls a wait closure, and says what it has answered.
+/// Calls a wait closure, once, of this word, and says what it has answered. Gives it back.
 #[inline(always)]
-pub(crate) fn answer<X, W: Fn(&X, &u64) -> WaitAction>(word: &X, told: u64, wait: &W) -> WaitAction
-    requires may { W.IsAlwaysCallable wait.now }
-    ensures answered { MayAnswer W.Fn wait.now (λ n. n ≡ told) result }
+pub(crate) fn answer<X, W: FnMut(&X, &u64) -> WaitAction>(
+    word: &X,
+    told: u64,
+    wait: W,
+) -> (WaitAction, W)
+    requires may { W.IsAlwaysCallable wait }
+    ensures may_again { W.IsAlwaysCallable result.1 }
+    ensures asked { AskedOnce W.FnMut word.now wait told result.0 result.1 }
 {
-    wait(word, &told)
+    let mut asked = wait;
+    let action = asked(word, &told);
+    (action, asked)
 }

@@ -21,4 +21,4 @@ pub use counts::{Counts, CountsByActs};
 pub use played::{Parties, Played};
 pub use script::Script;
 pub use stage::Stage;
-pub use wait::{OfWord, Sealed, Shown};
+pub use wait::{OfWord, OwnWords, Sealed, Shown, Shows};

@@ -1,6 +1,6 @@
 //! A call under way of a pass that is out with its seat, as where a value lies in a slot beside the word.
 ghost use Rattle.std.specs.Prelude.{◌≡◌, ◌<◌};
-ghost use Rattle.std.specs.Fn.{FnReturnsAt};
+ghost use Rattle.std.specs.Fn.{CalledAt};
 ghost use Rattle.model_events.specs.declared.row.Intent.TheVariants as intents;
 ghost use Rattle.running_passes.specs.Answers.{MayAnswer};
 ghost use Rattle.running_model.specs.Passes.{HasNeeds, SteppedByAct};
@@ -188,7 +188,8 @@ impl<S, M, P, V, C> SeatTurn<S, Played<M, P, V, C>, Goes> {
         ensures answered { MayAnswer W.Fn wait.now (λ n. n ≡ told) (action_heard result) }
     {
         let SeatTurn { seat, by: _ } = self;
-        match answer(&word.shown, told, wait) {
+        let (action, _asked) = answer(&word.shown, told, wait);
+        match action {
             WaitAction::Continue => SeatAnswered::Continue(SeatTurn {
                 seat,
                 by: PhantomData,
@@ -200,27 +201,28 @@ impl<S, M, P, V, C> SeatTurn<S, Played<M, P, V, C>, Goes> {
         }
     }
 
-    /// Calls the wake closure that the call is to call next, of the word that the model names for that place.
+    /// Calls the wake closure that the call is to call next, once, of the word that the model names for that place. Gives the closure back.
     #[inline(always)]
-    pub fn wake<X: Shown, W: Fn(&X)>(
+    pub fn wake<X: Shown, W: FnMut(&X)>(
         self,
         word: &Sealed<X>,
-        wake: &W,
-    ) -> SeatTurn<S, Played<M, P, V, C>, AfterAside>
+        wake: W,
+    ) -> (SeatTurn<S, Played<M, P, V, C>, AfterAside>, W)
     where
         M: Script<(), P, V>,
         requires word { X.object word.now.shown ≡ self.seat.table_id }
         requires wakes { IsToWake (M.model tt) M.names M.handed (X.index word.now.shown) self.seat.me.0.tally.parties }
-        requires may { W.IsAlwaysCallable wake.now }
-        ensures still { result.seat ≡ self.seat }
-        ensures woke { FnReturnsAt W.Fn wake.now word.now.shown tt }
+        requires may { W.IsAlwaysCallable wake }
+        ensures still { result.0.seat ≡ self.seat }
+        ensures woke { CalledAt W.FnMut wake word.now.shown tt result.1 }
     {
         let SeatTurn { seat, by: _ } = self;
-        call(wake, &word.shown);
-        SeatTurn {
+        let woken = call(wake, &word.shown);
+        let next = SeatTurn {
             seat,
             by: PhantomData,
-        }
+        };
+        (next, woken)
     }
 
     /// The call has been answered. Gives the seat back.

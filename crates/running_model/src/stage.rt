@@ -44,16 +44,14 @@ impl<K, M: Script<K, P, V>, P, V, C: Counts<K, V>, A: Allocator> Deref for Stage
 }
 
 impl<K, M: Script<K, P, V>, P, V, C: Counts<K, V>, A: Allocator> Stage<K, M, P, V, C, A> {
-    ghost use Rattle.running_passes.specs.declared.words.Word.{Word as PassesWord};
     ghost use Rattle.running_passes.specs.Parts.{IsWhole};
     ghost use Rattle.running_passes.specs.Passes.{view, part_of, tally_of, IsSamePass};
     ghost use Rattle.running_passes.specs.Views.{first_view};
     ghost use Rattle.running_passes.specs.Objects.{HasClosed, HaveClosed};
-    ghost use Rattle.running_model.specs.declared.played.Played.{Played as PlayedBy};
     ghost use Rattle.running_model.specs.Slots.{no_parties};
     ghost use Rattle.running_model.specs.Words.{AllHold};
     ghost use Rattle.running_model.specs.Passes.{played, PlaysAndCounts, Learned};
-    ghost use Rattle.running_model.specs.Stages.{IsPassOf, IsWordOf, key_of, count_of};
+    ghost use Rattle.running_model.specs.Stages.{IsPassOf, id_of, key_of, count_of};
 
     /// The words of an object that nobody has called, and the pass that is whole. `Err` where there was no memory; then nothing was made.
     pub fn new(
@@ -80,7 +78,8 @@ impl<K, M: Script<K, P, V>, P, V, C: Counts<K, V>, A: Allocator> Stage<K, M, P, 
         index: usize,
     ) -> Sealed<X>
         requires inside { index < count_of self.now }
-        ensures of { (word : PassesWord K (PlayedBy M P V C)) × IsWordOf self.now index word × X.shows word result.shown }
+        ensures object { X.Shown.object result.shown ≡ id_of self.now }
+        ensures index { X.Shown.index result.shown ≡ index }
     {
         Sealed {
             shown: X::of(self.words.word(index)),

@@ -8,21 +8,24 @@ ghost use Rattle.model_events.specs.declared.patience.Patience.{Patience};
 ghost use Rattle.model_events.specs.Rows.{answered};
 ghost use Rattle.running_passes.specs.declared.part.Part.{Part};
 ghost use Rattle.running_passes.specs.Passes.{object_of, part_of, sights_of};
-ghost use Rattle.running_passes.specs.Answers.{MayAnswer, MayAnswerAbort, HasAsked};
+ghost use Rattle.running_passes.specs.Answers.{MayAnswerAbort, HasAsked};
 ghost use Rattle.running_model.specs.Passes.{parties_of, counts_of};
 ghost use Rattle.running_model.specs.Counts.{HasMoved, WasRefused, WasRefusedAt};
 ghost use Rattle.running_model.specs.Slots.{Slot};
 ghost use Rattle.running_model.specs.Words.{IsNamed};
 ghost use Rattle.running_model.specs.Turns.{action_in, pass_in};
+ghost use Rattle.running_model.specs.Asked.{AskedOnce, Asked, AskedAfter};
 ghost use Rattle.running_model.specs.Tries.{spun, MayTry, Tried, IsRefused, IsStanding, IsGranted, HasGivenUp, OnceRefused, OnceStanding, StandsToWait};
 
+use crate::calling::answer;
 use crate::played::Played;
 use crate::script::Script;
-use crate::turn::{Aborted, Answered, Continued, Goes, Turn, Way, hear};
+use crate::turn::{Aborted, Answered, Continued, Goes, Turn, Way};
 use crate::wait::{Sealed, Shown};
 use model_events::{SPIN_REPETITIONS, WaitAction};
 use running_passes::Pass;
 use std::hint::spin_loop;
+use std::marker::PhantomData;
 use std::sync::Wait;
 
 /// One try of a call that may be refused. Where it is, its model spins, stands at its wait closure or gives up, as its patience says.
@@ -71,38 +74,6 @@ pub trait Attempt<K, M: Script<K, P, V>, P, V, C> {
     ghost answers: { (key : K) (p : Patience) (action : WaitAction) → (M.model key).table.answered (place p) action ≡ place (answered p action) };
 }
 
-/// Calls the wait closure at which a call of the pass stands. It is handed the word that the model names for that place, and told what
-/// the model tells it there.
-#[inline(always)]
-fn ask<
-    'p,
-    K,
-    M: Script<K, P, V>,
-    P,
-    V,
-    C,
-    B: Attempt<K, M, P, V, C>,
-    X: Shown,
-    W: Fn(&X, &u64) -> WaitAction,
->(
-    turn: Turn<'p, Pass<Played<M, P, V, C>>, Goes>,
-    by: &B,
-    word: &Sealed<X>,
-    told: u64,
-    wait: &W,
-) -> Answered<'p, Pass<Played<M, P, V, C>>>
-    requires own { object_of turn.pass.now ≡ B.object by.now }
-    requires word { X.object word.now.shown ≡ B.object by.now }
-    requires stands { StandsToWait (M.model (B.key by.now)) M.names M.handed (X.index word.now.shown) told (parties_of turn.pass.now) }
-    requires may { W.IsAlwaysCallable wait.now }
-    ensures same_borrow { (pass_in result).ghost_name ≡ turn.entry.pass.ghost_name }
-    ensures still { (pass_in result).now ≡ turn.entry.pass.now }
-    ensures answered { MayAnswer W.Fn wait.now (λ n. n ≡ told) (action_in result) }
-{
-    let _by = by;
-    hear(turn, &word.shown, told, wait)
-}
-
 /// Further tries, as many as a call makes by itself, until one is not refused. `seen` is the value that refused the first.
 fn spin<'p, K, M: Script<K, P, V>, P, V, C, B: Attempt<K, M, P, V, C>, R: Wait>(
     rt: &R,
@@ -140,6 +111,56 @@ fn spin<'p, K, M: Script<K, P, V>, P, V, C, B: Attempt<K, M, P, V, C>, R: Wait>(
     Err((last, next))
 }
 
+/// Calls the wait closure at which a call of the pass stands. It is handed the word that the model names for that place, and told what
+/// the model tells it there.
+#[inline(always)]
+fn ask<
+    'p,
+    K,
+    M: Script<K, P, V>,
+    P,
+    V,
+    C,
+    B: Attempt<K, M, P, V, C>,
+    X: Shown,
+    W: FnMut(&X, &u64) -> WaitAction,
+>(
+    turn: Turn<'p, Pass<Played<M, P, V, C>>, Goes>,
+    by: &B,
+    word: &Sealed<X>,
+    told: u64,
+    wait: W,
+) -> (Answered<'p, Pass<Played<M, P, V, C>>>, W)
+    requires own { object_of turn.pass.now ≡ B.object by.now }
+    requires word { X.object word.now.shown ≡ B.object by.now }
+    requires stands { StandsToWait (M.model (B.key by.now)) M.names M.handed (X.index word.now.shown) told (parties_of turn.pass.now) }
+    requires may { W.IsAlwaysCallable wait }
+    ensures same_borrow { (pass_in result.0).ghost_name ≡ turn.entry.pass.ghost_name }
+    ensures still { (pass_in result.0).now ≡ turn.entry.pass.now }
+    ensures may_again { W.IsAlwaysCallable result.1 }
+    ensures asked { AskedOnce W.FnMut word.now.shown wait told (action_in result.0) result.1 }
+{
+    let _by = by;
+    let Turn { pass, by: _ } = turn;
+    let (action, asked) = answer(&word.shown, told, wait);
+    match action {
+        WaitAction::Continue => (
+            Answered::Continue(Turn {
+                pass,
+                by: PhantomData,
+            }),
+            asked,
+        ),
+        WaitAction::Abort => (
+            Answered::Abort(Turn {
+                pass,
+                by: PhantomData,
+            }),
+            asked,
+        ),
+    }
+}
+
 /// The wait closure before each further try, until one is not refused, or is refused after the closure answered `Abort`. The closure
 /// is handed the word, and told the value that refused the try before; `told` is the first of these.
 fn ask_and_try<
@@ -152,41 +173,43 @@ fn ask_and_try<
     B: Attempt<K, M, P, V, C>,
     X: Shown,
     R: Wait,
-    W: Fn(&X, &u64) -> WaitAction,
+    W: FnMut(&X, &u64) -> WaitAction,
 >(
     rt: &R,
     turn: Turn<'p, Pass<Played<M, P, V, C>>, Goes>,
     by: &B,
     word: &Sealed<X>,
     told: u64,
-    wait: &W,
-) -> (bool, Turn<'p, Pass<Played<M, P, V, C>>, Goes>)
+    wait: W,
+) -> (bool, Turn<'p, Pass<Played<M, P, V, C>>, Goes>, W)
     requires own { object_of turn.pass.now ≡ B.object by.now }
-    requires may { W.IsAlwaysCallable wait.now }
+    requires may { W.IsAlwaysCallable wait }
     requires refused { B.refuses told }
     requires word { X.object word.now.shown ≡ B.object by.now }
     requires handed { (p : Patience) → IsNamed M.names (X.index word.now.shown) (M.handed (B.place p)) }
     requires at { (done : List (Slot V)) × IsStanding (M.model (B.key by.now)) B.call B.place told done (parties_of turn.pass.now) }
     ensures same_borrow { result.1.pass.ghost_name ≡ turn.entry.pass.ghost_name }
     ensures told { MatchBool result.0 (HasMoved B.moves turn.entry.pass.now result.1.pass.now) (WasRefused B.refuses 1 turn.entry.pass.now result.1.pass.now) }
-    ensures aborted { result.0 ≡ false → MayAnswerAbort W.Fn wait.now B.refuses }
-    ensures asked { result.0 ≡ false → B.looks_once (part_of turn.entry.pass.now) (counts_of turn.entry.pass.now) → HasAsked W.Fn wait.now B.refuses 0 turn.entry.pass.now result.1.pass.now }
+    ensures asked { Asked W.FnMut word.now.shown B.refuses told wait result.2 result.0 (B.looks_once (part_of turn.entry.pass.now) (counts_of turn.entry.pass.now)) (sights_of turn.entry.pass.now).count (sights_of result.1.pass.now).count }
     ensures over { OnceStanding (M.model (B.key by.now)) B.call B.place told (parties_of turn.entry.pass.now) (λ done. MatchBool result.0 (IsGranted (M.model (B.key by.now)) B.call B.place B.takes done (parties_of result.1.pass.now)) (HasGivenUp (M.model (B.key by.now)) B.call B.place done (parties_of result.1.pass.now))) }
 {
     let mut last = told;
     let mut next = turn;
+    let mut wait = wait;
     for _ in rt.forever() {
-        match ask(next, by, word, last, wait) {
+        let (answer, asked) = ask(next, by, word, last, wait);
+        wait = asked;
+        match answer {
             Answered::Continue(continued) => match by.attempt::<Continued, R>(continued, rt) {
-                Ok(granted) => return (true, granted),
+                Ok(granted) => return (true, granted, wait),
                 Err((found, again)) => {
                     last = found;
                     next = again;
                 }
             },
             Answered::Abort(aborted) => match by.attempt::<Aborted, R>(aborted, rt) {
-                Ok(granted) => return (true, granted),
-                Err((_, refused)) => return (false, refused),
+                Ok(granted) => return (true, granted, wait),
+                Err((_, refused)) => return (false, refused, wait),
             },
         }
     }
@@ -194,7 +217,46 @@ fn ask_and_try<
 }
 
 /// What a call that may wait does once its first try was refused: further tries by itself, and then the wait closure before each.
-/// `seen` is the value that refused the first.
+/// `seen` is the value that refused the first. Gives the closure back.
+pub fn try_again_by<
+    'p,
+    K,
+    M: Script<K, P, V>,
+    P,
+    V,
+    C,
+    B: Attempt<K, M, P, V, C>,
+    X: Shown,
+    R: Wait,
+    W: FnMut(&X, &u64) -> WaitAction,
+>(
+    rt: &R,
+    turn: Turn<'p, Pass<Played<M, P, V, C>>, Goes>,
+    by: &B,
+    word: &Sealed<X>,
+    seen: u64,
+    wait: W,
+) -> (bool, Turn<'p, Pass<Played<M, P, V, C>>, Goes>, W)
+    requires own { object_of turn.pass.now ≡ B.object by.now }
+    requires may { W.IsAlwaysCallable wait }
+    requires seen { (sights_of turn.pass.now).last ≡ seen }
+    requires refused { B.refuses seen }
+    requires word { X.object word.now.shown ≡ B.object by.now }
+    requires handed { (p : Patience) → IsNamed M.names (X.index word.now.shown) (M.handed (B.place p)) }
+    requires at { (done : List (Slot V)) × IsRefused (M.model (B.key by.now)) B.call B.place (spun 0) seen done (parties_of turn.pass.now) }
+    ensures same_borrow { result.1.pass.ghost_name ≡ turn.entry.pass.ghost_name }
+    ensures told { MatchBool result.0 (HasMoved B.moves turn.entry.pass.now result.1.pass.now) (WasRefused B.refuses 10001 turn.entry.pass.now result.1.pass.now) }
+    ensures asked { AskedAfter W.FnMut word.now.shown B.refuses 10000 wait result.2 result.0 (B.looks_once (part_of turn.entry.pass.now) (counts_of turn.entry.pass.now)) (sights_of turn.entry.pass.now).count (sights_of result.1.pass.now).count }
+    ensures over { OnceRefused (M.model (B.key by.now)) B.call B.place seen (parties_of turn.entry.pass.now) (λ done. MatchBool result.0 (IsGranted (M.model (B.key by.now)) B.call B.place B.takes done (parties_of result.1.pass.now)) (HasGivenUp (M.model (B.key by.now)) B.call B.place done (parties_of result.1.pass.now))) }
+{
+    match spin(rt, turn, by, seen) {
+        Ok(granted) => (true, granted, wait),
+        Err((last, next)) => ask_and_try(rt, next, by, word, last, wait),
+    }
+}
+
+/// The same by a wait closure whose calls leave no trace: it is handed down itself.
+#[inline]
 pub fn try_again<
     'p,
     K,
@@ -212,10 +274,10 @@ pub fn try_again<
     by: &B,
     word: &Sealed<X>,
     seen: u64,
-    wait: &W,
+    wait: W,
 ) -> (bool, Turn<'p, Pass<Played<M, P, V, C>>, Goes>)
     requires own { object_of turn.pass.now ≡ B.object by.now }
-    requires may { W.IsAlwaysCallable wait.now }
+    requires may { W.IsAlwaysCallable wait }
     requires seen { (sights_of turn.pass.now).last ≡ seen }
     requires refused { B.refuses seen }
     requires word { X.object word.now.shown ≡ B.object by.now }
@@ -223,12 +285,10 @@ pub fn try_again<
     requires at { (done : List (Slot V)) × IsRefused (M.model (B.key by.now)) B.call B.place (spun 0) seen done (parties_of turn.pass.now) }
     ensures same_borrow { result.1.pass.ghost_name ≡ turn.entry.pass.ghost_name }
     ensures told { MatchBool result.0 (HasMoved B.moves turn.entry.pass.now result.1.pass.now) (WasRefused B.refuses 10001 turn.entry.pass.now result.1.pass.now) }
-    ensures aborted { result.0 ≡ false → MayAnswerAbort W.Fn wait.now B.refuses }
-    ensures asked { result.0 ≡ false → B.looks_once (part_of turn.entry.pass.now) (counts_of turn.entry.pass.now) → HasAsked W.Fn wait.now B.refuses 10000 turn.entry.pass.now result.1.pass.now }
+    ensures aborted { result.0 ≡ false → MayAnswerAbort W.Fn wait B.refuses }
+    ensures asked { result.0 ≡ false → B.looks_once (part_of turn.entry.pass.now) (counts_of turn.entry.pass.now) → HasAsked W.Fn wait B.refuses 10000 turn.entry.pass.now result.1.pass.now }
     ensures over { OnceRefused (M.model (B.key by.now)) B.call B.place seen (parties_of turn.entry.pass.now) (λ done. MatchBool result.0 (IsGranted (M.model (B.key by.now)) B.call B.place B.takes done (parties_of result.1.pass.now)) (HasGivenUp (M.model (B.key by.now)) B.call B.place done (parties_of result.1.pass.now))) }
 {
-    match spin(rt, turn, by, seen) {
-        Ok(granted) => (true, granted),
-        Err((last, next)) => ask_and_try(rt, next, by, word, last, wait),
-    }
+    let (granted, last, _) = try_again_by(rt, turn, by, word, seen, wait);
+    (granted, last)
 }

@@ -5,7 +5,7 @@ ghost use Rattle.running_model.specs.Turns.{action_in, pass_in};
 
 use crate::calling::answer;
 pub use crate::choosing::{Choice, Chooses, Chosen, Nothing, TurnWith};
-pub use crate::tries::{Attempt, try_again};
+pub use crate::tries::{Attempt, try_again, try_again_by};
 use model_events::WaitAction;
 use std::marker::{Brand, PhantomData};
 
@@ -143,7 +143,8 @@ pub(crate) fn hear<'p, T, X, W: Fn(&X, &u64) -> WaitAction>(
     ensures answered { MayAnswer W.Fn wait.now (λ n. n ≡ told) (action_in result) }
 {
     let Turn { pass, by: _ } = turn;
-    match answer(word, told, wait) {
+    let (action, _asked) = answer(word, told, wait);
+    match action {
         WaitAction::Continue => Answered::Continue(Turn {
             pass,
             by: PhantomData,

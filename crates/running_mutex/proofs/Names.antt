@@ -6,8 +6,9 @@ pub use Rattle.running_model.proofs.Over.{is_over, either_is_over}
 pub use Rattle.running_model.proofs.Steps.{told_so, zero_or_not}
 pub use Rattle.running_model.proofs.Words.{hold_at}
 pub use Rattle.running_model.specs.Turns.{IsOverAside}
-pub use Rattle.running_tallies.proofs.OneHold.{tried_alone, IsTry, tried}
-pub use Rattle.running_tallies.specs.Mutex.{mutex_is_for_one, holds_add_up, word_is_held}
+pub use Rattle.running_for_one.proofs.OneHold.{tried_alone, IsTry, tried}
+pub use Rattle.running_for_one.specs.ForOne.{holds_add_up, word_is_held}
+pub use Rattle.running_mutex.specs.Mutex.{mutex_is_for_one}
 pub use Rattle.std.proofs.Common.{◌≡◌, ℕ, Bool, true, false, MatchBool, subst, arith, ◌≢◌, ◌+◌, [], ◌∷◌, sym, refl, ap, ◌∙◌, List, None, Some, ◌==◌}
 pub use Rattle.std.proofs.lemmas.Bool.{eqb-true, eqb-false, ne_eqb, MatchBool-at_true, MatchBool-at_false, true≢false}
 pub use Rattle.std.proofs.lemmas.Bool.Decides.{nat_tests}

@@ -3,9 +3,9 @@ use Rattle.std.specs.Prelude.{◌≡◌, ◌≢◌, ℕ, ◌+◌, ◌≤◌, Boo
 use Rattle.running_mutex.specs.Names.{GName, Call, Answer, HoldKind, MutexPlace, mutex_model, Part, Pass, IsWhole, IsSamePass, part_of, sights_of, Played, Parties, Coming, HasCalled, Went, parties_of, counts_of, counted, HasMoved, Holds, MutexScript, RattleType, u64, IsPassOf}
 use Rattle.running_passes.specs.contracts.pass.Pass.{the_row}
 use Rattle.running_model.specs.contracts.played.Played as played_row
-use Rattle.running_tallies.specs.contracts.mutex.MutexScript as script_row
+use Rattle.running_mutex.specs.contracts.script.MutexScript as script_row
 use Rattle.model_mutex.specs.contracts.MutexPlace as place_row
-use Rattle.running_tallies.specs.contracts.mutex.Holds as holds_row
+use Rattle.running_for_one.specs.contracts.Holds as holds_row
 use Rattle.running_mutex.specs.declared.MutexHold.{MutexHold}
 use Rattle.running_mutex.specs.declared.Mutex.{Mutex}
 use Rattle.running_mutex.specs.MutexParties.{Unlocks}
@@ -19,7 +19,7 @@ MutexPass = Pass (Played MutexScript MutexPlace ℕ Holds)
 abbrev pub mutex_row : RattleType
 mutex_row = the_row (played_row.the_row script_row.the_row place_row.the_row u64 holds_row.the_row)
 
-abbrev pub IsMutexPass : {A : Type 0} → Mutex A → MutexPass → Type 0
+abbrev pub IsMutexPass : {A S : Type 0} → Mutex A S → MutexPass → Type 0
 IsMutexPass m p = IsPassOf m.stage p
 
 -- how many of the pass's holds stand: 0 or 1

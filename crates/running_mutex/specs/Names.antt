@@ -25,8 +25,9 @@ pub use Rattle.running_passes.specs.Views.{sum_of, IsCounted, missed, wrote}
 pub use Rattle.running_passes.specs.declared.part.Part.{Part}
 pub use Rattle.running_passes.specs.declared.pass.Pass.{Pass}
 pub use Rattle.running_passes.specs.declared.view.View.{View}
-pub use Rattle.running_tallies.specs.Mutex.{granted, released, AreHoldsIn, both_holds, no_holds, holds_after, mutex_model}
-pub use Rattle.running_tallies.specs.declared.mutex.Holds.{Holds}
-pub use Rattle.running_tallies.specs.declared.mutex.MutexScript.{MutexScript}
+pub use Rattle.running_for_one.specs.ForOne.{granted, released, AreHoldsIn, both_holds, no_holds, holds_after}
+pub use Rattle.running_mutex.specs.Mutex.{mutex_model}
+pub use Rattle.running_for_one.specs.declared.Holds.{Holds}
+pub use Rattle.running_mutex.specs.declared.script.MutexScript.{MutexScript}
 pub use Rattle.std.specs.Borrow.{Bor, GName, RattleType, u64}
 pub use Rattle.std.specs.Fn.{Shared}

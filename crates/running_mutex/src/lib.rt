@@ -11,41 +11,48 @@ ghost use Rattle.running_model.specs.Stages.{count_of};
 ghost use Rattle.running_mutex.specs.MutexParties.{HasMutex};
 ghost use Rattle.running_mutex.specs.MutexSteps.{GrantsAreOfARun, OneHolder};
 
+mod script;
 mod shares;
 
 use model_events::WaitAction;
 use model_mutex::{MutexPlace, granted};
+use running_for_one::Holds;
 use running_model::calls::{LockCall, TryLockCall, UnlockCall};
 use running_model::turn::{
     Attempt, Called, Continues, Goes, Turn, Way, begin_held, begin_new, try_again,
 };
-use running_model::{Sealed, Stage};
-use running_passes::{Origin, Pass, WaitResult};
-use running_tallies::{Holds, MutexScript, PlayedMutex, WaitWord};
+use running_model::{OfWord, OwnWords, Sealed, Shows, Stage};
+use running_passes::{Origin, Pass, WaitResult, Word};
+pub use script::{MutexKey, MutexScript, PlayedMutex};
 use std::alloc::{AllocError, Allocator, Global};
+use std::marker::PhantomData;
 use std::ops::Deref;
 use std::sync::Wait;
 
 /// A lock with one holder at most.
 #[derive(Drop)]
-pub struct Mutex<A: Allocator = Global> {
-    stage: Stage<(), MutexScript, MutexPlace, u64, Holds, A>,
+pub struct Mutex<A: Allocator = Global, S = OwnWords> {
+    stage: Stage<MutexKey, MutexScript, MutexPlace, u64, Holds, A>,
+    shows: PhantomData<S>,
     ghost one_word: { count_of stage ≡ 1 },
 }
 
 /// What the passes of a mutex come from, at which they are split and joined.
-impl<A: Allocator> Deref for Mutex<A> {
+impl<A: Allocator, S> Deref for Mutex<A, S> {
     ghost use Rattle.running_model.specs.Stages.{origin};
 
-    type Target = Origin<(), PlayedMutex, A>;
+    type Target = Origin<MutexKey, PlayedMutex, A>;
 
     #[inline(always)]
-    fn deref(&self) -> &Origin<(), PlayedMutex, A>
+    fn deref(&self) -> &Origin<MutexKey, PlayedMutex, A>
         ensures { result.now ≡ origin self.now.stage }
     {
         &self.stage
     }
 }
+
+/// The word of a mutex, as wait and wake closures see it. It can be loaded and slept on, and no more.
+pub type MutexWord<'t> = Word<'t, MutexKey, PlayedMutex>;
 
 /// The right to call a mutex, and what its owner did and saw there.
 pub type MutexPass = Pass<PlayedMutex>;
@@ -59,7 +66,7 @@ pub struct MutexHold<'p> {
     ghost has: { HasMutex (parties_of pass.now) },
 }
 
-impl<A: Allocator> Mutex<A> {
+impl<A: Allocator, S> Mutex<A, S> {
     ghost use Rattle.std.specs.Borrow.{sem};
     ghost use Rattle.std.specs.Prelude.{true, ◌+◌, [], ◌∷◌, Some, None, MatchBool};
     ghost use Rattle.model_events.specs.declared.event.Word.TheVariants as words;
@@ -67,36 +74,40 @@ impl<A: Allocator> Mutex<A> {
     ghost use Rattle.model_events.specs.declared.event.Answer.TheVariants as answers;
     ghost use Rattle.model_events.specs.declared.hold.HoldKind.TheVariants as kinds;
     ghost use Rattle.model_events.specs.declared.row.Intent.TheVariants as intents;
-    ghost use Rattle.running_tallies.specs.Mutex.{mutex_model, no_holds};
+    ghost use Rattle.running_for_one.specs.ForOne.{no_holds};
+    ghost use Rattle.running_mutex.specs.Mutex.{mutex_model};
     ghost use Rattle.running_passes.specs.Answers.{IfSuccess, IfInterrupted, IsSuccess, RestsIfInterrupted, MayAnswerAbort, HasWoken};
     ghost use Rattle.running_passes.specs.Passes.{view};
     ghost use Rattle.running_passes.specs.Views.{first_view};
     ghost use Rattle.running_model.specs.Slots.{no_parties};
     ghost use Rattle.running_model.specs.Plays.{MayStep, Beginning};
     ghost use Rattle.running_model.specs.Passes.{played};
+    ghost use Rattle.running_model.specs.Asked.{WokeOnce};
     ghost use Rattle.running_model.specs.Counts.{HasGivenUp};
     ghost use Rattle.running_model.specs.Stages.{id_of};
-    ghost use Rattle.running_tallies.specs.Shown.{object_shown, index_shown};
     ghost use Rattle.running_mutex.specs.MutexShown.{mutex_row, IsMutexPass, IsAlone, IsLocked, holds_of, grants_of, pass_of, borrow_of, HasLocked, HasSeenLocked, HasUnlocked, HasEntered, HasStayed, HasTried, HasPlayed, HasPlayedUnlock, HasPlayedBoth};
 
     /// A mutex that is free, and the pass that is whole. `Err` where there was no memory; then nothing was made.
-    pub fn new(alloc: A) -> Result<(Mutex<A>, MutexPass), AllocError>
+    pub fn new(alloc: A) -> Result<(Mutex<A, S>, MutexPass), AllocError>
         ensures own { IfOk result (λ made. IsMutexPass made.0 made.1) }
         ensures first { IfOk result (λ made. view made.1 ≡ first_view (played no_parties no_holds)) }
     {
-        let (stage, pass) = Stage::new(alloc, &[0], &())?;
-        Ok((Mutex { stage }, pass))
+        let (stage, pass) = Stage::new(alloc, &[0], &MutexKey)?;
+        let shows = PhantomData;
+        Ok((Mutex { stage, shows }, pass))
     }
 
     /// Locks the mutex: one exchange of 0 for 1, up to 10000 more, and then the wait closure before each further one. `Interrupted`
     /// where an exchange failed after the closure had answered `Abort`; then this call holds nothing.
     #[inline(always)]
-    pub fn lock<'p, R: Wait, W: Fn(&WaitWord, &u64) -> WaitAction>(
+    pub fn lock<'p, 't, R: Wait, W: Fn(&<S as Shows<'t, MutexWord<'t>>>::As, &u64) -> WaitAction>(
         pass: &'p mut MutexPass,
-        this: &Self,
+        this: &'t Self,
         rt: &R,
         wait: W,
     ) -> WaitResult<MutexHold<'p>>
+    where
+        S: Shows<'t, MutexWord<'t>>,
         requires own { IsMutexPass this.now pass.old }
         requires may { W.IsAlwaysCallable wait }
         ensures* refused { sem 𝓛 (RestsIfInterrupted mutex_row pass.entry borrow_of result (λ q. HasGivenUp W.Fn wait IsLocked pass.old q × HasPlayed calls.Lock answers.Interrupted None pass.old q)) }
@@ -111,7 +122,7 @@ impl<A: Allocator> Mutex<A> {
             let _pass = turn.end(&this.stage);
             return WaitResult::Success(MutexHold { pass });
         }
-        let (granted, last) = try_again(rt, turn, this, &this.word(), locked(), &wait);
+        let (granted, last) = try_again(rt, turn, this, &this.word(), locked(), wait);
         let _pass = last.end(&this.stage);
         if granted {
             WaitResult::Success(MutexHold { pass })
@@ -122,11 +133,13 @@ impl<A: Allocator> Mutex<A> {
 
     /// Stores 0, and then calls the wake closure once. Gives the pass back.
     #[inline(always)]
-    pub fn unlock<'p, W: Fn(&WaitWord)>(
-        &self,
+    pub fn unlock<'p, 't, W: Fn(&<S as Shows<'t, MutexWord<'t>>>::As)>(
+        &'t self,
         hold: MutexHold<'p>,
         wake_one: W,
     ) -> &'p mut MutexPass
+    where
+        S: Shows<'t, MutexWord<'t>>,
         requires own { IsMutexPass self.now (pass_of hold) }
         requires may { W.IsAlwaysCallable wake_one }
         ensures same_borrow { result.ghost_name ≡ borrow_of hold.entry }
@@ -135,7 +148,7 @@ impl<A: Allocator> Mutex<A> {
         ensures woke { HasWoken W.Fn wake_one }
     {
         let MutexHold { pass } = hold;
-        self.leave(pass, &wake_one);
+        let _wake = self.leave(pass, wake_one);
         pass
     }
 
@@ -161,12 +174,15 @@ impl<A: Allocator> Mutex<A> {
     /// called. It borrows nothing, so it serves a method of a struct that owns the mutex and its pass.
     #[inline(always)]
     pub fn with_lock<
+        't,
         T,
         R: Wait,
-        W: Fn(&WaitWord, &u64) -> WaitAction,
-        K: Fn(&WaitWord),
+        W: Fn(&<S as Shows<'t, MutexWord<'t>>>::As, &u64) -> WaitAction,
+        K: Fn(&<S as Shows<'t, MutexWord<'t>>>::As),
         F: FnOnce() -> T,
-    >(&self, rt: &R, pass: &mut MutexPass, wait: W, wake_one: K, act: F) -> WaitResult<T>
+    >(&'t self, rt: &R, pass: &mut MutexPass, wait: W, wake_one: K, act: F) -> WaitResult<T>
+    where
+        S: Shows<'t, MutexWord<'t>>,
         requires own { IsMutexPass self.now pass.old }
         requires may { W.IsAlwaysCallable wait × K.IsAlwaysCallable wake_one × F.IsAlwaysCallable act }
         ensures stayed { HasStayed pass.old pass.new }
@@ -203,21 +219,26 @@ impl<A: Allocator> Mutex<A> {
         free
     }
 
-    /// What `unlock` does, by the pass that has the hold.
+    /// What `unlock` does, by the pass that has the hold. Gives the wake closure back.
     #[inline(always)]
-    fn leave<W: Fn(&WaitWord)>(&self, pass: &mut MutexPass, wake_one: &W)
+    fn leave<'t, X: OfWord<MutexWord<'t>>, W: FnMut(&X)>(
+        &'t self,
+        pass: &mut MutexPass,
+        wake_one: W,
+    ) -> W
         requires own { IsMutexPass self.now pass.old }
         requires on { holds_of pass.old ≡ 1 }
         requires has { HasMutex (parties_of pass.old) }
-        requires may { W.IsAlwaysCallable wake_one.now }
+        requires may { W.IsAlwaysCallable wake_one }
         ensures released { HasUnlocked pass.old pass.new }
         ensures played { HasPlayedUnlock pass.old pass.new }
-        ensures woke { HasWoken W.Fn wake_one.now }
+        ensures woke { WokeOnce W.FnMut (λ word. (X.Shown.object word ≡ id_of self.now.stage) × (X.Shown.index word ≡ 0)) wake_one result }
     {
         let begun = begin_held::<UnlockCall, MutexPass>(pass);
         let turn = self.release(begun);
-        let woken = turn.wake(&self.stage, &self.word(), wake_one);
+        let (woken, wake) = turn.wake(&self.stage, &self.word(), wake_one);
         let _pass = woken.end_aside(&self.stage);
+        wake
     }
 
     /// One exchange of 0 for 1, and whether it was done.
@@ -272,31 +293,31 @@ impl<A: Allocator> Mutex<A> {
 
     /// The mutex's word, as closures see it.
     #[inline(always)]
-    fn word(&self) -> Sealed<WaitWord<'_>>
-        ensures object { object_shown result.shown ≡ id_of self.now.stage }
-        ensures index { index_shown result.shown ≡ 0 }
+    fn word<'t, X: OfWord<MutexWord<'t>>>(&'t self) -> Sealed<X>
+        ensures object { X.Shown.object result.shown ≡ id_of self.now.stage }
+        ensures index { X.Shown.index result.shown ≡ 0 }
     {
         self.stage.shown(0)
     }
 }
 
 /// An exchange of `lock`.
-impl<A: Allocator> Attempt<(), MutexScript, MutexPlace, u64, Holds> for Mutex<A> {
+impl<A: Allocator, S> Attempt<MutexKey, MutexScript, MutexPlace, u64, Holds> for Mutex<A, S> {
     ghost use Rattle.std.specs.Prelude.{◌+◌, Some, IfErr};
     ghost use Rattle.running_passes.specs.Passes.{object_of, sights_of};
     ghost use Rattle.running_model.specs.Counts.{HasMoved, WasRefusedAt};
     ghost use Rattle.running_model.specs.Tries.{MayTry, Tried, IsGranted, IsRefused};
-    ghost use Rattle.running_tallies.specs.Mutex.{mutex_model};
+    ghost use Rattle.running_mutex.specs.Mutex.{mutex_model};
     ghost use Rattle.std.proofs.Common.{refl};
     ghost use Rattle.model_events.specs.declared.event.Call.TheVariants as calls;
     ghost use Rattle.model_events.specs.declared.hold.HoldKind.TheVariants as kinds;
     ghost use Rattle.model_mutex.specs.declared.MutexPlace.TheVariants as places;
-    ghost use Rattle.running_model.specs.Stages.{id_of};
+    ghost use Rattle.running_model.specs.Stages.{id_of, key_of};
     ghost use Rattle.running_mutex.specs.MutexShown.{IsLocked, Enters};
 
     ghost object = { λ m. id_of m.stage };
 
-    ghost key = { λ _. tt };
+    ghost key = { λ m. key_of m.stage };
 
     ghost call = { calls.Lock };
 

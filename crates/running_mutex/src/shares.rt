@@ -5,7 +5,7 @@ use crate::{Mutex, MutexPass};
 use running_sharing::Shares;
 use std::alloc::Allocator;
 
-impl<A: Allocator> Shares<Mutex<A>> for MutexPass {
+impl<A: Allocator, S> Shares<Mutex<A, S>> for MutexPass {
     ghost use Rattle.running_passes.specs.Passes.{part_of};
     ghost use Rattle.running_mutex.specs.MutexShown.{IsMutexPass, holds_of};
 
@@ -13,14 +13,14 @@ impl<A: Allocator> Shares<Mutex<A>> for MutexPass {
 
     ghost part = { part_of };
 
-    fn cut(self, of: &Mutex<A>) -> (MutexPass, MutexPass) {
+    fn cut(self, of: &Mutex<A, S>) -> (MutexPass, MutexPass) {
         let Ok(parts) = self.split(of) else {
             unreachable!()
         };
         parts
     }
 
-    fn mend(one: MutexPass, other: MutexPass, of: &Mutex<A>) -> MutexPass {
+    fn mend(one: MutexPass, other: MutexPass, of: &Mutex<A, S>) -> MutexPass {
         let Ok(pass) = MutexPass::join(one, other, of) else {
             unreachable!()
         };

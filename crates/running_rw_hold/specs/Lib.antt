@@ -1,3 +1,6 @@
 pub mod Names
 pub mod RwReading
 pub mod RwShown
+pub mod Held
+pub mod HeldKeeps
+pub mod RwReader

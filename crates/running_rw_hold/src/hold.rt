@@ -1,8 +1,8 @@
 //! What a granted lock gives.
 ghost use Rattle.std.specs.Prelude.{◌≡◌, ◌<◌, ℕ, Bool, true};
 
+use crate::rw_reader::PlayedRwReader;
 use running_passes::Pass;
-use running_tallies::PlayedRwReader;
 
 /// A pass of a reader-writer lock, which counts its holds of each kind.
 pub trait RwPass {
@@ -21,7 +21,7 @@ pub trait RwPass {
 impl RwPass for Pass<PlayedRwReader> {
     ghost use Rattle.model_events.specs.declared.hold.HoldKind.TheVariants as kinds;
     ghost use Rattle.running_model.specs.Passes.{parties_of, counts_of};
-    ghost use Rattle.running_tallies.specs.Held.{read_holds, write_holds};
+    ghost use Rattle.running_rw_hold.specs.Held.{read_holds, write_holds};
     ghost use Rattle.running_model.specs.Holding.{is_holding};
     ghost use Rattle.model_rw_reader.specs.Table.{rw_reader_table};
 

@@ -18,16 +18,14 @@ ghost use Rattle.running_model.specs.Slots.{Slot, Parties, all_of};
 ghost use Rattle.running_model.specs.Tries.{spun, MayTry, Tried, IsGranted, IsRefused, HasGivenUp};
 ghost use Rattle.running_model.specs.Turns.{IsOver};
 ghost use Rattle.running_model.specs.Words.{IsNamed};
-ghost use Rattle.running_tallies.specs.Shown.{object_shown, index_shown};
 ghost use Rattle.running_rw_hold.specs.RwShown.{TurnsAway};
 ghost use Rattle.running_rw_hold.specs.RwReading.{HasLookedOnce, HasLooked, MayLook, MayEnter, HasLookedAt, HasTriedToEnter, HasReadFrom, HasSeenLast};
 
 use model_events::WaitAction;
 use running_model::calls::{ReadCall, TryReadCall};
 use running_model::turn::{Attempt, Called, Goes, Turn, Way, begin_new, try_again};
-use running_model::{Played, Script, Sealed};
+use running_model::{Played, Script, Sealed, Shown};
 use running_passes::Pass;
-use running_tallies::WaitWord;
 use std::sync::Wait;
 
 /// A lock as its readers see it: how they look at its word, and enter by an exchange of the value seen.
@@ -97,11 +95,6 @@ pub trait ReadSteps<M: Script<(), P, u64>, P, C> {
         requires over { IsOver (M.model tt) (parties_of turn.pass.now) }
         ensures same_borrow { result.ghost_name ≡ turn.entry.pass.ghost_name }
         ensures still { result.now ≡ turn.entry.pass.now };
-
-    /// The lock's word, as closures see it.
-    fn word(&self) -> Sealed<WaitWord<'_>>
-        ensures object { object_shown result.shown ≡ object self.now }
-        ensures index { (patience : Patience) → IsNamed M.names (index_shown result.shown) (M.handed (place patience)) };
 
     // How its calls begin, and that an answer of the wait closure changes the patience alone.
     ghost begins_once: { MayBegin (M.model tt) calls.TryReadLock once None };
@@ -232,16 +225,19 @@ pub fn wait_to_read<
     C,
     L: ReadSteps<M, P, C>,
     R: Wait,
-    W: Fn(&WaitWord, &u64) -> WaitAction,
->(lock: &L, pass: &mut Pass<Played<M, P, u64, C>>, rt: &R, wait: &W) -> bool
+    X: Shown,
+    W: Fn(&X, &u64) -> WaitAction,
+>(lock: &L, pass: &mut Pass<Played<M, P, u64, C>>, rt: &R, word: &Sealed<X>, wait: W) -> bool
     requires own { object_of pass.old ≡ L.object lock.now }
-    requires may { W.IsAlwaysCallable wait.now }
+    requires word { X.object word.now.shown ≡ L.object lock.now }
+    requires handed { (p : Patience) → IsNamed M.names (X.index word.now.shown) (M.handed (L.place p)) }
+    requires may { W.IsAlwaysCallable wait }
     ensures entered { MatchBool result (HasMoved L.moves pass.old pass.new) (WasRefused L.refuses 10002 pass.old pass.new) }
     ensures played { MatchBool result (HasCalled (M.model tt) calls.ReadLock answers.Success (Some kinds.Read) (parties_of pass.old) (parties_of pass.new)) (HasCalled (M.model tt) calls.ReadLock answers.Interrupted None (parties_of pass.old) (parties_of pass.new)) }
     ensures has { result ≡ true → is_holding (M.model tt).table kinds.Read (parties_of pass.new) ≡ true }
     ensures exact { L.free (part_of pass.old) (counts_of pass.old) → result ≡ true }
-    ensures aborted { result ≡ false → MayAnswerAbort W.Fn wait.now L.refuses }
-    ensures asked { L.only (part_of pass.old) (counts_of pass.old) → result ≡ false → HasAsked W.Fn wait.now L.refuses 10001 pass.old pass.new }
+    ensures aborted { result ≡ false → MayAnswerAbort W.Fn wait L.refuses }
+    ensures asked { L.only (part_of pass.old) (counts_of pass.old) → result ≡ false → HasAsked W.Fn wait L.refuses 10001 pass.old pass.new }
 {
     match first_read(lock, pass) {
         Ok(granted) => {
@@ -249,7 +245,7 @@ pub fn wait_to_read<
             true
         }
         Err((seen, next)) => {
-            let (entered, last) = read_later(lock, next, rt, seen, wait);
+            let (entered, last) = read_later(lock, next, rt, word, seen, wait);
             let _pass = lock.end(last);
             entered
         }
@@ -264,29 +260,33 @@ fn read_later<
     C,
     L: ReadSteps<M, P, C>,
     R: Wait,
-    W: Fn(&WaitWord, &u64) -> WaitAction,
+    X: Shown,
+    W: Fn(&X, &u64) -> WaitAction,
 >(
     lock: &L,
     turn: Turn<'p, Pass<Played<M, P, u64, C>>, Goes>,
     rt: &R,
+    word: &Sealed<X>,
     seen: u64,
-    wait: &W,
+    wait: W,
 ) -> (bool, Turn<'p, Pass<Played<M, P, u64, C>>, Goes>)
     requires own { object_of turn.pass.now ≡ L.object lock.now }
-    requires may { W.IsAlwaysCallable wait.now }
+    requires word { X.object word.now.shown ≡ L.object lock.now }
+    requires handed { (p : Patience) → IsNamed M.names (X.index word.now.shown) (M.handed (L.place p)) }
+    requires may { W.IsAlwaysCallable wait }
     requires last { (sights_of turn.pass.now).last ≡ seen }
     requires at { (done : List (Slot ℕ)) × HasLooked (M.model tt) L.once L.place (spun 0) seen done (parties_of turn.pass.now) }
     ensures same_borrow { result.1.pass.ghost_name ≡ turn.entry.pass.ghost_name }
     ensures told { MatchBool result.0 (HasMoved L.moves turn.entry.pass.now result.1.pass.now) (WasRefused L.refuses 10001 turn.entry.pass.now result.1.pass.now) }
-    ensures aborted { result.0 ≡ false → MayAnswerAbort W.Fn wait.now L.refuses }
-    ensures asked { (L.only (part_of turn.entry.pass.now) (counts_of turn.entry.pass.now) → seen ≡ L.word_of (counts_of turn.entry.pass.now)) → L.only (part_of turn.entry.pass.now) (counts_of turn.entry.pass.now) → result.0 ≡ false → HasAsked W.Fn wait.now L.refuses 10000 turn.entry.pass.now result.1.pass.now }
+    ensures aborted { result.0 ≡ false → MayAnswerAbort W.Fn wait L.refuses }
+    ensures asked { (L.only (part_of turn.entry.pass.now) (counts_of turn.entry.pass.now) → seen ≡ L.word_of (counts_of turn.entry.pass.now)) → L.only (part_of turn.entry.pass.now) (counts_of turn.entry.pass.now) → result.0 ≡ false → HasAsked W.Fn wait L.refuses 10000 turn.entry.pass.now result.1.pass.now }
     ensures over { (done : List (Slot ℕ)) → HasLooked (M.model tt) L.once L.place (spun 0) seen done (parties_of turn.entry.pass.now) → MatchBool result.0 (IsGranted (M.model tt) calls.ReadLock L.place (Some kinds.Read) done (parties_of result.1.pass.now)) (HasGivenUp (M.model tt) calls.ReadLock L.place done (parties_of result.1.pass.now)) }
 {
     match read_from(lock, turn, rt, seen) {
         Ok(granted) => (true, granted),
         Err((shut, next)) => {
             let reader = Reader { lock };
-            try_again(rt, next, &reader, &lock.word(), shut, wait)
+            try_again(rt, next, &reader, word, shut, wait)
         }
     }
 }

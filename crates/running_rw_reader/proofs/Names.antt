@@ -4,7 +4,7 @@ pub use Rattle.running_rw_reader.specs.RwReaderParties.{has_hold, Unlocks}
 pub use Rattle.running_rw_reader.specs.RwReaderShown.{HasPlayed, RwReaderPass, reads_of, writes_of, HasLeftReading, HasLeftWriting, IsTaken, EntersToWrite, HasEnteredToWrite, HasSeenTaken}
 pub use Rattle.running_model.proofs.Attempts.{missed_once, refused_by, told_after, asked_after}
 pub use Rattle.running_model.proofs.Over.{is_over, either_is_over}
-pub use Rattle.running_tallies.specs.HeldKeeps.{comes_in, goes_out, takes_over, parts, only_writes}
+pub use Rattle.running_rw_hold.specs.HeldKeeps.{comes_in, goes_out, takes_over, parts, only_writes}
 pub use Rattle.std.proofs.Common.{ap, ◌≢◌, subst, refl, ◌≡◌, true, Some, None, ◌∙◌, sym, MatchBool, ℕ, ◌+◌, ◌-◌, ◌^◌, ◌<◌, [], ◌∷◌, get_or, arith, Bool, false, List}
 pub use Rattle.std.proofs.lemmas.Bool.{MatchBool-at_true, ne_eqb, eqb-true, eqb-false}
 pub use Rattle.std.proofs.lemmas.Bool.Decides.{nat_tests}

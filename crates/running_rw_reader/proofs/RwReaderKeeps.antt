@@ -11,7 +11,7 @@ use Rattle.running_model.specs.Sees.{sights_after}
 use Rattle.running_model.proofs.OfARun.{of_a_run}
 use Rattle.running_model.proofs.Steps.{told_so, found_there, done_so, missed_so}
 use Rattle.running_model.proofs.Words.{hold_at}
-use Rattle.running_tallies.specs.RwReader.{locks}
+use Rattle.running_rw_hold.specs.RwReader.{locks}
 use Rattle.running_rw_reader.specs.RwReaderSteps.{HoldsAreOfARun, NoHoldBesideAWriteHold, word_of}
 
 -- with what the others count

@@ -21,9 +21,9 @@ pub use Rattle.running_passes.specs.Views.{looked, missed, wrote, sum_of, IsCoun
 pub use Rattle.running_passes.specs.declared.view.View.{View}
 pub use Rattle.running_rw_hold.specs.declared.hold.RwHold.{RwHold}
 pub use Rattle.running_rw_hold.specs.declared.hold.RwPass.{Ghosts}
-pub use Rattle.running_tallies.specs.Held.{read_holds, write_holds, Locks, same_nothing, tells_same_nothing, held_adds_up}
-pub use Rattle.running_tallies.specs.RwReader.{Holds, no_holds, read, no_more_read, written, AreHoldsIn, both_holds, held_after, rw_reader_model}
-pub use Rattle.running_tallies.specs.declared.held.Held.TheVariants.{Free}
+pub use Rattle.running_rw_hold.specs.Held.{read_holds, write_holds, Locks, same_nothing, tells_same_nothing, held_adds_up}
+pub use Rattle.running_rw_hold.specs.RwReader.{Holds, no_holds, read, no_more_read, written, AreHoldsIn, both_holds, held_after, rw_reader_model}
+pub use Rattle.running_rw_hold.specs.declared.held.Held.TheVariants.{Free}
 pub use Rattle.std.specs.Borrow.{Bor}
 pub use Rattle.std.specs.Fn.{Shared}
 pub use Rattle.std.specs.Prelude.{IfOk, IfErr}

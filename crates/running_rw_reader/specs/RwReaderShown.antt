@@ -6,9 +6,9 @@ use Rattle.running_passes.specs.declared.pass.Pass.{Pass}
 use Rattle.std.specs.Borrow.{RattleType, u64, unit}
 use Rattle.running_passes.specs.contracts.pass.Pass.{the_row}
 use Rattle.running_model.specs.contracts.played.Played as played_row
-use Rattle.running_tallies.specs.contracts.rw_reader.RwReaderScript as script_row
+use Rattle.running_rw_hold.specs.contracts.rw_reader.RwReaderScript as script_row
 use Rattle.model_rw_reader.specs.contracts.RwReaderPlace as place_row
-use Rattle.running_tallies.specs.contracts.held.Held as held_row
+use Rattle.running_rw_hold.specs.contracts.held.Held as held_row
 use Rattle.running_model.specs.Stages.{IsPassOf}
 use Rattle.running_rw_reader.specs.declared.RwLockReaderPreference.{RwLockReaderPreference}
 use Rattle.running_rw_hold.specs.RwShown.{IsReadHold, IsWriteHold, kind_of, pass_of, TurnsAway}
@@ -23,7 +23,7 @@ RwReaderPass = Pass PlayedRwReader
 abbrev pub reader_row : RattleType
 reader_row = the_row (played_row.the_row script_row.the_row place_row.the_row u64 (held_row.the_row unit))
 
-abbrev pub IsRwReaderPass : {A : Type 0} → RwLockReaderPreference A → RwReaderPass → Type 0
+abbrev pub IsRwReaderPass : {A S : Type 0} → RwLockReaderPreference A S → RwReaderPass → Type 0
 IsRwReaderPass l p = IsPassOf l.stage p
 
 -- how many of the pass's read holds stand, and how many of its write holds

@@ -5,7 +5,7 @@ use mathlib.Core.Option.{some}
 use lib.ListN.{get_elem?}
 use Rattle.atomic_table.specs.Table.{State}
 use Rattle.running_model.specs.declared.played.Played.{Played}
-use Rattle.running_tallies.specs.declared.rw_reader.RwReaderScript.{RwReaderScript}
+use Rattle.running_rw_hold.specs.declared.rw_reader.RwReaderScript.{RwReaderScript}
 
 -- what a pass of a reader-preferring lock is in its model, and counts beside
 abbrev pub PlayedRwReader : Type 0

@@ -17,25 +17,27 @@ mod writing;
 
 use model_events::WaitAction;
 use model_rw_reader::RwReaderPlace;
-use running_model::Stage;
-use running_passes::{Origin, Pass, WaitResult};
+use running_model::{OwnWords, Shows, Stage};
+use running_passes::{Origin, Pass, WaitResult, Word};
 use running_rw_hold::{
-    RwHold, end_read_hold, end_write_hold, read_hold, try_to_read, wait_to_read, write_hold,
+    Held, PlayedRwReader, RwHold, RwReaderScript, end_read_hold, end_write_hold, read_hold,
+    try_to_read, wait_to_read, write_hold,
 };
-use running_tallies::{Held, PlayedRwReader, RwReaderScript, WaitWord};
 use std::alloc::{AllocError, Allocator, Global};
+use std::marker::PhantomData;
 use std::ops::Deref;
 use std::sync::Wait;
 
 /// A lock of many readers or one writer. A reader enters wherever no writer is in, also where writers wait.
 #[derive(Drop)]
-pub struct RwLockReaderPreference<A: Allocator = Global> {
+pub struct RwLockReaderPreference<A: Allocator = Global, S = OwnWords> {
     stage: Stage<(), RwReaderScript, RwReaderPlace, u64, Held<()>, A>,
+    shows: PhantomData<S>,
     ghost one_word: { count_of stage ≡ 1 },
 }
 
 /// What the passes of a lock come from, at which they are split and joined.
-impl<A: Allocator> Deref for RwLockReaderPreference<A> {
+impl<A: Allocator, S> Deref for RwLockReaderPreference<A, S> {
     ghost use Rattle.running_model.specs.Stages.{origin};
 
     type Target = Origin<(), PlayedRwReader, A>;
@@ -48,10 +50,13 @@ impl<A: Allocator> Deref for RwLockReaderPreference<A> {
     }
 }
 
+/// The word of a reader-preferring lock, as wait and wake closures see it. It can be loaded and slept on, and no more.
+pub type RwReaderWord<'t> = Word<'t, (), PlayedRwReader>;
+
 /// The right to call a reader-preferring lock, and what its owner did and saw there.
 pub type RwReaderPass = Pass<PlayedRwReader>;
 
-impl<A: Allocator> RwLockReaderPreference<A> {
+impl<A: Allocator, S> RwLockReaderPreference<A, S> {
     ghost use Rattle.std.specs.Prelude.{IfOk, Some, None};
     ghost use Rattle.running_model.specs.Passes.{counts_of as tally_of, played};
     ghost use Rattle.std.specs.Borrow.{sem};
@@ -65,17 +70,18 @@ impl<A: Allocator> RwLockReaderPreference<A> {
     ghost use Rattle.running_model.specs.Slots.{no_parties};
     ghost use Rattle.running_model.specs.Counts.{WasRefused, HasGivenUp};
     ghost use Rattle.running_rw_hold.specs.RwShown.{IsReadHold, IsWriteHold, pass_of, borrow_of};
-    ghost use Rattle.running_tallies.specs.RwReader.{no_holds};
+    ghost use Rattle.running_rw_hold.specs.RwReader.{no_holds};
     ghost use Rattle.running_rw_reader.specs.RwReaderSteps.{word_of};
     ghost use Rattle.running_rw_reader.specs.RwReaderShown.{reader_row, IsRwReaderPass, IsAlone, IsShut, IsTaken, WasTurnedAway, HasEnteredToRead, HasEnteredToWrite, HasReadAtOnce, HasWrittenAtOnce, HasSeenTaken, HasUnlocked, HasPlayed, HasPlayedUnlock};
 
     /// A lock that is free, and the pass that is whole. `Err` where there was no memory; then nothing was made.
-    pub fn new(alloc: A) -> Result<(RwLockReaderPreference<A>, RwReaderPass), AllocError>
+    pub fn new(alloc: A) -> Result<(RwLockReaderPreference<A, S>, RwReaderPass), AllocError>
         ensures own { IfOk result (λ made. IsRwReaderPass made.0 made.1) }
         ensures first { IfOk result (λ made. view made.1 ≡ first_view (played no_parties no_holds)) }
     {
         let (stage, pass) = Stage::new(alloc, &[0], &())?;
-        Ok((RwLockReaderPreference { stage }, pass))
+        let shows = PhantomData;
+        Ok((RwLockReaderPreference { stage, shows }, pass))
     }
 
     /// Locks for reading: one look and, where there is room for a reader, one exchange. `Interrupted` where a writer is in or there
@@ -105,12 +111,19 @@ impl<A: Allocator> RwLockReaderPreference<A> {
     /// there is none it looks up to 10000 times more, and then calls the wait closure before each further look, with the value seen.
     /// `Interrupted` where a look saw no room after the closure had answered `Abort`; then this call holds nothing.
     #[inline(always)]
-    pub fn read_lock<'p, R: Wait, W: Fn(&WaitWord, &u64) -> WaitAction>(
+    pub fn read_lock<
+        'p,
+        't,
+        R: Wait,
+        W: Fn(&<S as Shows<'t, RwReaderWord<'t>>>::As, &u64) -> WaitAction,
+    >(
         pass: &'p mut RwReaderPass,
-        this: &Self,
+        this: &'t Self,
         rt: &R,
         wait: W,
     ) -> WaitResult<RwHold<'p, RwReaderPass>>
+    where
+        S: Shows<'t, RwReaderWord<'t>>,
         requires own { IsRwReaderPass this.now pass.old }
         requires may { W.IsAlwaysCallable wait }
         ensures* refused { sem 𝓛 (RestsIfInterrupted reader_row pass.entry borrow_of result (λ q. WasRefused IsShut 10002 pass.old q × (IsWhole (part_of pass.old) → HasAsked W.Fn wait IsShut 10001 pass.old q) × HasPlayed calls.ReadLock answers.Interrupted None pass.old q)) }
@@ -121,7 +134,7 @@ impl<A: Allocator> RwLockReaderPreference<A> {
         ensures exact { IsAlone pass.old → IsSuccess result }
         ensures aborted { IfInterrupted result (MayAnswerAbort W.Fn wait IsShut) }
     {
-        if wait_to_read(this, pass, rt, &wait) {
+        if wait_to_read(this, pass, rt, &this.word(), wait) {
             WaitResult::Success(RwHold::Read(read_hold(pass)))
         } else {
             WaitResult::Interrupted
@@ -130,11 +143,13 @@ impl<A: Allocator> RwLockReaderPreference<A> {
 
     /// Subtracts 1 for a read hold, stores 0 for a write hold, and then calls the wake closure once. Gives the pass back.
     #[inline(always)]
-    pub fn unlock<'p, W: Fn(&WaitWord)>(
-        &self,
+    pub fn unlock<'p, 't, W: Fn(&<S as Shows<'t, RwReaderWord<'t>>>::As)>(
+        &'t self,
         hold: RwHold<'p, RwReaderPass>,
         wake_one: W,
     ) -> &'p mut RwReaderPass
+    where
+        S: Shows<'t, RwReaderWord<'t>>,
         requires own { IsRwReaderPass self.now (pass_of hold) }
         requires may { W.IsAlwaysCallable wake_one }
         ensures same_borrow { result.ghost_name ≡ borrow_of hold.entry }
@@ -174,12 +189,19 @@ impl<A: Allocator> RwLockReaderPreference<A> {
     /// value that the exchange found. `Interrupted` where an exchange failed after the closure had answered `Abort`; then this call
     /// holds nothing.
     #[inline(always)]
-    pub fn write_lock<'p, R: Wait, W: Fn(&WaitWord, &u64) -> WaitAction>(
+    pub fn write_lock<
+        'p,
+        't,
+        R: Wait,
+        W: Fn(&<S as Shows<'t, RwReaderWord<'t>>>::As, &u64) -> WaitAction,
+    >(
         pass: &'p mut RwReaderPass,
-        this: &Self,
+        this: &'t Self,
         rt: &R,
         wait: W,
     ) -> WaitResult<RwHold<'p, RwReaderPass>>
+    where
+        S: Shows<'t, RwReaderWord<'t>>,
         requires own { IsRwReaderPass this.now pass.old }
         requires may { W.IsAlwaysCallable wait }
         ensures* refused { sem 𝓛 (RestsIfInterrupted reader_row pass.entry borrow_of result (λ q. HasGivenUp W.Fn wait IsTaken pass.old q × HasPlayed calls.WriteLock answers.Interrupted None pass.old q)) }
@@ -190,7 +212,7 @@ impl<A: Allocator> RwLockReaderPreference<A> {
         ensures exact { IsAlone pass.old → IsSuccess result }
         ensures aborted { IfInterrupted result (MayAnswerAbort W.Fn wait IsTaken) }
     {
-        if this.wait_to_write(pass, rt, &wait) {
+        if this.wait_to_write(pass, rt, wait) {
             WaitResult::Success(RwHold::Write(write_hold(pass)))
         } else {
             WaitResult::Interrupted
@@ -203,7 +225,7 @@ impl<A: Allocator> RwLockReaderPreference<A> {
         ensures exact { IsWhole (part_of pass) → result ≡ word_of (tally_of pass) }
         ensures free { IsAlone pass → result ≡ 0 }
     {
-        let RwLockReaderPreference { stage } = self;
+        let RwLockReaderPreference { stage, shows: _ } = self;
         stage.close(pass, 0)
     }
 }

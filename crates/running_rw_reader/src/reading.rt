@@ -1,18 +1,17 @@
 //! What calls of a reader-preferring lock do for a reader.
 ghost use Rattle.std.specs.Prelude.{◌≡◌, ◌+◌, ◌-◌, ◌^◌, ◌<◌};
 
-use crate::{RwLockReaderPreference, RwReaderPass};
+use crate::{RwLockReaderPreference, RwReaderPass, RwReaderWord};
 use model_rw_reader::{RwReaderPlace, reader_enters};
-use running_model::Sealed;
+use running_model::OfWord;
 use running_model::calls::UnlockCall;
 use running_model::turn::{Goes, Turn, Way, begin_held};
-use running_rw_hold::ReadSteps;
-use running_tallies::{Held, RwReaderScript, WaitWord};
+use running_rw_hold::{Held, ReadSteps, RwReaderScript};
 use std::alloc::Allocator;
 
 /// A load, and an exchange of the value seen for one more.
-impl<A: Allocator> ReadSteps<RwReaderScript, RwReaderPlace, Held<()>>
-    for RwLockReaderPreference<A> {
+impl<A: Allocator, S> ReadSteps<RwReaderScript, RwReaderPlace, Held<()>>
+    for RwLockReaderPreference<A, S> {
     ghost use Rattle.std.specs.Prelude.{[], ◌∷◌};
     ghost use Rattle.std.proofs.Common.{refl};
     ghost use Rattle.model_events.specs.declared.event.Word.TheVariants as words;
@@ -21,13 +20,12 @@ impl<A: Allocator> ReadSteps<RwReaderScript, RwReaderPlace, Held<()>>
     ghost use Rattle.running_model.specs.Passes.{parties_of};
     ghost use Rattle.running_model.specs.Turns.{IsOver};
     ghost use Rattle.running_model.specs.Words.{IsNamed};
-    ghost use Rattle.running_tallies.specs.Shown.{object_shown, index_shown};
-    ghost use Rattle.running_tallies.specs.RwReader.{rw_reader_model, read};
+    ghost use Rattle.running_rw_hold.specs.RwReader.{rw_reader_model, read};
     ghost use Rattle.running_rw_hold.specs.RwReading.{MayLook, MayEnter, HasLookedAt, HasTriedToEnter};
     ghost use Rattle.model_rw_reader.specs.declared.RwReaderPlace.TheVariants as places;
     ghost use Rattle.running_passes.specs.Parts.{IsWhole};
     ghost use Rattle.running_model.specs.Stages.{id_of};
-    ghost use Rattle.running_tallies.specs.Held.{read_holds, write_holds};
+    ghost use Rattle.running_rw_hold.specs.Held.{read_holds, write_holds};
     ghost use Rattle.running_rw_reader.specs.RwReaderSteps.{word_of as held_word};
     ghost use Rattle.running_rw_reader.specs.RwReaderShown.{IsShut, EntersToRead};
 
@@ -102,17 +100,9 @@ impl<A: Allocator> ReadSteps<RwReaderScript, RwReaderPlace, Held<()>>
     {
         turn.end(&self.stage)
     }
-
-    #[inline(always)]
-    fn word(&self) -> Sealed<WaitWord<'_>>
-        ensures object { object_shown result.shown ≡ id_of self.now.stage }
-        ensures index { Patience → IsNamed (words.State ∷ []) (index_shown result.shown) words.State }
-    {
-        self.stage.shown(0)
-    }
 }
 
-impl<A: Allocator> RwLockReaderPreference<A> {
+impl<A: Allocator, S> RwLockReaderPreference<A, S> {
     ghost use Rattle.std.specs.Prelude.{true};
     ghost use Rattle.model_events.specs.declared.hold.HoldKind.TheVariants as kinds;
     ghost use Rattle.running_passes.specs.Answers.{HasWoken};
@@ -122,8 +112,8 @@ impl<A: Allocator> RwLockReaderPreference<A> {
 
     /// What `unlock` does with a read hold.
     #[inline(always)]
-    pub(crate) fn unlock_read<'p, W: Fn(&WaitWord)>(
-        &self,
+    pub(crate) fn unlock_read<'p, 't, X: OfWord<RwReaderWord<'t>>, W: Fn(&X)>(
+        &'t self,
         pass: &'p mut RwReaderPass,
         wake_one: W,
     ) -> &'p mut RwReaderPass
@@ -138,7 +128,7 @@ impl<A: Allocator> RwLockReaderPreference<A> {
     {
         let begun = begin_held::<UnlockCall, RwReaderPass>(pass);
         let turn = self.leave_reading(begun);
-        let woken = turn.wake(&self.stage, &self.word(), &wake_one);
+        let (woken, _wake_one) = turn.wake(&self.stage, &self.word(), wake_one);
         woken.end_aside(&self.stage)
     }
 }

@@ -5,7 +5,7 @@ use crate::{RwLockReaderPreference, RwReaderPass};
 use running_sharing::Shares;
 use std::alloc::Allocator;
 
-impl<A: Allocator> Shares<RwLockReaderPreference<A>> for RwReaderPass {
+impl<A: Allocator, S> Shares<RwLockReaderPreference<A, S>> for RwReaderPass {
     ghost use Rattle.running_passes.specs.Passes.{part_of};
     ghost use Rattle.running_rw_reader.specs.RwReaderShown.{IsRwReaderPass, reads_of, writes_of};
 
@@ -13,7 +13,7 @@ impl<A: Allocator> Shares<RwLockReaderPreference<A>> for RwReaderPass {
 
     ghost part = { part_of };
 
-    fn cut(self, of: &RwLockReaderPreference<A>) -> (RwReaderPass, RwReaderPass) {
+    fn cut(self, of: &RwLockReaderPreference<A, S>) -> (RwReaderPass, RwReaderPass) {
         let Ok(parts) = self.split(of) else {
             unreachable!()
         };
@@ -23,7 +23,7 @@ impl<A: Allocator> Shares<RwLockReaderPreference<A>> for RwReaderPass {
     fn mend(
         one: RwReaderPass,
         other: RwReaderPass,
-        of: &RwLockReaderPreference<A>,
+        of: &RwLockReaderPreference<A, S>,
     ) -> RwReaderPass {
         let Ok(pass) = RwReaderPass::join(one, other, of) else {
             unreachable!()

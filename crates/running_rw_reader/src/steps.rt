@@ -1,27 +1,25 @@
 //! Each atomic step of a reader-preferring lock.
 ghost use Rattle.std.specs.Prelude.{◌≡◌, ◌-◌, ◌^◌};
 
-use crate::{RwLockReaderPreference, RwReaderPass};
+use crate::{RwLockReaderPreference, RwReaderPass, RwReaderWord};
 use model_rw_reader::writer_enters;
-use running_model::Sealed;
 use running_model::calls::UnlockCall;
 use running_model::turn::{Continues, Goes, Turn, Way};
-use running_tallies::WaitWord;
+use running_model::{OfWord, Sealed};
 use std::alloc::Allocator;
 
-impl<A: Allocator> RwLockReaderPreference<A> {
+impl<A: Allocator, S> RwLockReaderPreference<A, S> {
     ghost use Rattle.std.specs.Prelude.{ℕ, true, ◌+◌, ◌<◌, ◌≢◌, [], ◌∷◌};
     ghost use Rattle.running_model.specs.Passes.{parties_of, counts_of as tally_of};
     ghost use Rattle.model_events.specs.declared.event.Word.TheVariants as words;
     ghost use Rattle.model_events.specs.declared.hold.HoldKind.TheVariants as kinds;
     ghost use Rattle.model_events.specs.declared.row.Intent.TheVariants as intents;
-    ghost use Rattle.running_tallies.specs.RwReader.{rw_reader_model, read, written};
+    ghost use Rattle.running_rw_hold.specs.RwReader.{rw_reader_model, read, written};
     ghost use Rattle.running_passes.specs.Parts.{IsWhole};
     ghost use Rattle.running_passes.specs.Passes.{part_of};
     ghost use Rattle.running_model.specs.Plays.{Going, MayStep, Went};
     ghost use Rattle.running_model.specs.Counts.{HasSeen, HasMissed, HasDone};
     ghost use Rattle.running_model.specs.Stages.{id_of};
-    ghost use Rattle.running_tallies.specs.Shown.{object_shown, index_shown};
     ghost use Rattle.running_rw_reader.specs.RwReaderParties.{has_hold, Unlocks};
     ghost use Rattle.running_rw_reader.specs.RwReaderSteps.{word_of};
     ghost use Rattle.running_rw_reader.specs.RwReaderShown.{IsRwReaderPass, reads_of, writes_of, HasLeftReading, HasLeftWriting};
@@ -119,9 +117,9 @@ impl<A: Allocator> RwLockReaderPreference<A> {
 
     /// The lock's word, as closures see it.
     #[inline(always)]
-    pub(crate) fn word(&self) -> Sealed<WaitWord<'_>>
-        ensures object { object_shown result.shown ≡ id_of self.now.stage }
-        ensures index { index_shown result.shown ≡ 0 }
+    pub(crate) fn word<'t, X: OfWord<RwReaderWord<'t>>>(&'t self) -> Sealed<X>
+        ensures object { X.Shown.object result.shown ≡ id_of self.now.stage }
+        ensures index { X.Shown.index result.shown ≡ 0 }
     {
         self.stage.shown(0)
     }

@@ -2,23 +2,24 @@
 ghost use Rattle.std.specs.Prelude.{◌≡◌, IfOk};
 ghost use Rattle.running_model.specs.Passes.{parties_of};
 
-use crate::{RwLockReaderPreference, RwReaderPass};
+use crate::{RwLockReaderPreference, RwReaderPass, RwReaderWord};
 use model_events::WaitAction;
 use model_rw_reader::RwReaderPlace;
+use running_model::OfWord;
 use running_model::calls::{TryWriteCall, UnlockCall, WriteCall};
 use running_model::turn::{Attempt, Called, Goes, Turn, Way, begin_held, begin_new, try_again};
-use running_tallies::{Held, RwReaderScript, WaitWord};
+use running_rw_hold::{Held, RwReaderScript};
 use std::alloc::Allocator;
 use std::sync::Wait;
 
-impl<A: Allocator> RwLockReaderPreference<A> {
+impl<A: Allocator, S> RwLockReaderPreference<A, S> {
     ghost use Rattle.std.specs.Prelude.{ℕ, ◌-◌, ◌^◌, true, false, ◌≢◌, [], ◌∷◌, Some, None, MatchBool, IfErr, is_ok};
     ghost use Rattle.model_events.specs.declared.event.Word.TheVariants as words;
     ghost use Rattle.model_events.specs.declared.event.Call.TheVariants as calls;
     ghost use Rattle.model_events.specs.declared.event.Answer.TheVariants as answers;
     ghost use Rattle.model_events.specs.declared.hold.HoldKind.TheVariants as kinds;
     ghost use Rattle.model_events.specs.declared.row.Intent.TheVariants as intents;
-    ghost use Rattle.running_tallies.specs.RwReader.{rw_reader_model};
+    ghost use Rattle.running_rw_hold.specs.RwReader.{rw_reader_model};
     ghost use Rattle.running_passes.specs.Answers.{MayAnswerAbort, HasWoken};
     ghost use Rattle.running_passes.specs.Passes.{sights_of};
     ghost use Rattle.running_model.specs.Plays.{Beginning, MayStep, Went};
@@ -95,19 +96,19 @@ impl<A: Allocator> RwLockReaderPreference<A> {
 
     /// What `write_lock` does, and whether the hold is on.
     #[inline(always)]
-    pub(crate) fn wait_to_write<R: Wait, W: Fn(&WaitWord, &u64) -> WaitAction>(
-        &self,
-        pass: &mut RwReaderPass,
-        rt: &R,
-        wait: &W,
-    ) -> bool
+    pub(crate) fn wait_to_write<
+        't,
+        X: OfWord<RwReaderWord<'t>>,
+        R: Wait,
+        W: Fn(&X, &u64) -> WaitAction,
+    >(&'t self, pass: &mut RwReaderPass, rt: &R, wait: W) -> bool
         requires own { IsRwReaderPass self.now pass.old }
-        requires may { W.IsAlwaysCallable wait.now }
-        ensures entered { MatchBool result (HasEnteredToWrite pass.old pass.new) (HasGivenUp W.Fn wait.now IsTaken pass.old pass.new) }
+        requires may { W.IsAlwaysCallable wait }
+        ensures entered { MatchBool result (HasEnteredToWrite pass.old pass.new) (HasGivenUp W.Fn wait IsTaken pass.old pass.new) }
         ensures played { MatchBool result (HasPlayed calls.WriteLock answers.Success (Some kinds.Write) pass.old pass.new) (HasPlayed calls.WriteLock answers.Interrupted None pass.old pass.new) }
         ensures has { result ≡ true → has_hold kinds.Write (parties_of pass.new) ≡ true }
         ensures exact { IsAlone pass.old → result ≡ true }
-        ensures aborted { result ≡ false → MayAnswerAbort W.Fn wait.now IsTaken }
+        ensures aborted { result ≡ false → MayAnswerAbort W.Fn wait IsTaken }
     {
         match self.first_write::<WriteCall>(pass) {
             Ok(granted) => {
@@ -125,8 +126,8 @@ impl<A: Allocator> RwLockReaderPreference<A> {
 
     /// What `unlock` does with a write hold.
     #[inline(always)]
-    pub(crate) fn unlock_write<'p, W: Fn(&WaitWord)>(
-        &self,
+    pub(crate) fn unlock_write<'p, 't, X: OfWord<RwReaderWord<'t>>, W: Fn(&X)>(
+        &'t self,
         pass: &'p mut RwReaderPass,
         wake_one: W,
     ) -> &'p mut RwReaderPass
@@ -141,19 +142,20 @@ impl<A: Allocator> RwLockReaderPreference<A> {
     {
         let begun = begin_held::<UnlockCall, RwReaderPass>(pass);
         let turn = self.leave_writing(begun);
-        let woken = turn.wake(&self.stage, &self.word(), &wake_one);
+        let (woken, _wake_one) = turn.wake(&self.stage, &self.word(), wake_one);
         woken.end_aside(&self.stage)
     }
 }
 
 /// A lock, as `write_lock` tries it.
 #[derive(Drop)]
-struct Writer<'l, A: Allocator> {
-    lock: &'l RwLockReaderPreference<A>,
+struct Writer<'l, A: Allocator, S> {
+    lock: &'l RwLockReaderPreference<A, S>,
 }
 
 /// An exchange of `write_lock`.
-impl<A: Allocator> Attempt<(), RwReaderScript, RwReaderPlace, u64, Held<()>> for Writer<'_, A> {
+impl<A: Allocator, S> Attempt<(), RwReaderScript, RwReaderPlace, u64, Held<()>>
+    for Writer<'_, A, S> {
     ghost use Rattle.std.specs.Prelude.{◌+◌, Some, IfErr};
     ghost use Rattle.std.proofs.Common.{refl};
     ghost use Rattle.model_events.specs.declared.event.Call.TheVariants as calls;
@@ -162,7 +164,7 @@ impl<A: Allocator> Attempt<(), RwReaderScript, RwReaderPlace, u64, Held<()>> for
     ghost use Rattle.running_passes.specs.Passes.{object_of, sights_of};
     ghost use Rattle.running_model.specs.Counts.{HasMoved, WasRefusedAt};
     ghost use Rattle.running_model.specs.Tries.{MayTry, Tried, IsGranted, IsRefused};
-    ghost use Rattle.running_tallies.specs.RwReader.{rw_reader_model};
+    ghost use Rattle.running_rw_hold.specs.RwReader.{rw_reader_model};
     ghost use Rattle.running_model.specs.Stages.{id_of};
     ghost use Rattle.running_rw_reader.specs.RwReaderShown.{IsTaken, EntersToWrite};
 

@@ -10,6 +10,7 @@ use Rattle.model_events.specs.declared.event.Answer.TheVariants as answers
 use Rattle.model_events.specs.declared.hold.HoldKind.{HoldKind}
 use Rattle.model_events.specs.declared.hold.HoldKind.TheVariants as kinds
 use Rattle.running_model.specs.Passes.{parties_of}
+use Rattle.running_model.specs.declared.wait.OwnWords.{OwnWords}
 use Rattle.running_rw_writer.specs.declared.RwLockWriterPreference.{RwLockWriterPreference}
 use Rattle.running_rw_writer.specs.declared.pass.RwWriterPass.{RwWriterPass}
 use Rattle.running_rw_writer.specs.RwWriterParties.{Unlocks, unlocked}
@@ -20,7 +21,7 @@ use Rattle.running_rw_value.specs.declared.guard.WriteGuard.{WriteGuard}
 
 module _ {T A : Type 0} where
   -- the lock in front
-  abbrev pub front_of : RwLock T A → RwLockWriterPreference A
+  abbrev pub front_of : RwLock T A → RwLockWriterPreference A OwnWords
   front_of l = l.lock
 
   -- the pass belongs to this lock

@@ -4,28 +4,28 @@ ghost use Rattle.std.specs.Borrow.{sem};
 ghost use Rattle.model_events.specs.declared.event.Call.TheVariants as calls;
 ghost use Rattle.model_events.specs.declared.event.Answer.TheVariants as answers;
 ghost use Rattle.model_events.specs.declared.hold.HoldKind.TheVariants as kinds;
-ghost use Rattle.running_passes.specs.Answers.{IfSuccess, IfInterrupted, IsSuccess, RestsIfInterrupted, MayAnswerAbort, HasAsked, HasWoken};
+ghost use Rattle.running_passes.specs.Answers.{IfSuccess, IfInterrupted, IsSuccess, RestsIfInterrupted, MayAnswerAbort, HasAsked};
+ghost use Rattle.running_model.specs.Shown.{object_shown, index_shown};
 ghost use Rattle.running_passes.specs.Parts.{IsWhole};
 ghost use Rattle.running_passes.specs.Views.{first_view};
 ghost use Rattle.running_model.specs.Slots.{no_parties};
 ghost use Rattle.running_model.specs.Passes.{played, parties_of};
 ghost use Rattle.running_model.specs.Counts.{WasRefused};
-ghost use Rattle.running_tallies.specs.RwWriter.{nothing_marked};
+ghost use Rattle.running_rw_writer.specs.RwWriter.{nothing_marked};
 ghost use Rattle.running_rw_hold.specs.RwShown.{IsReadHold, IsWriteHold, pass_of, borrow_of};
 ghost use Rattle.running_rw_writer.specs.contracts.pass.RwWriterPass.{the_row};
 ghost use Rattle.running_rw_writer.specs.RwWriterParties.{has_hold};
 ghost use Rattle.running_rw_writer.specs.RwWriterSteps.{IsMarked};
-ghost use Rattle.running_rw_writer.specs.RwWriterShown.{IsRwWriterPass, IsAlone, IsShut, pass_in, known_by, part_in, sights_in, HasStayed, HasEnteredToRead, HasEnteredToWrite, HasReadAtOnce, HasWrittenAtOnce, HasSeenTaken, WasTurnedAway, HasGivenUpWriting, HasLeftReading, HasLeftWriting, HasPlayed, HasPlayedGivingUp};
+ghost use Rattle.running_rw_writer.specs.RwWriterShown.{IsRwWriterPass, IsAlone, IsShut, HasWokenOne, HasWokenBoth, pass_in, known_by, part_in, sights_in, reads_of, writes_of, HasStayed, HasEnteredToRead, HasEnteredToWrite, HasReadAtOnce, HasWrittenAtOnce, HasSeenTaken, WasTurnedAway, HasGivenUpWriting, HasLeftReading, HasLeftWriting, HasPlayed, HasPlayedGivingUp};
 
 use crate::guard::{ReadGuard, WriteGuard, Writing};
 use model_events::WaitAction;
 use running_passes::WaitResult;
 use running_rw_hold::{RwHold, end_read_hold, end_write_hold, read_hold, write_hold};
-use running_rw_writer::{RwLockWriterPreference, RwWriterPass};
-use running_tallies::WaitWord;
+use running_rw_writer::{RwLockWriterPreference, RwWriterPass, RwWriterWord};
 use std::alloc::{AllocError, Allocator, Global};
 use std::sync;
-use std::sync::Wait;
+use std::sync::{RwLockReadGuard, RwLockWriteGuard, Wait};
 
 /// A lock that guards a value, for many readers or one writer. Where a writer waits no reader enters until it has come in or given up.
 #[derive(Drop)]
@@ -70,15 +70,15 @@ impl<T, A: Allocator> RwLock<T, A> {
         }
     }
 
-    /// Locks the lock in front for reading, and leaves the hold in the pass.
+    /// Locks the lock in front for reading, and leaves the hold in the pass, for a handle.
     #[inline(always)]
-    fn enter_to_read<R: Wait, W: Fn(&WaitWord, &u64) -> WaitAction>(
-        &self,
+    pub fn enter_to_read<'t, R: Wait, W: Fn(&RwWriterWord<'t>, &u64) -> WaitAction>(
+        &'t self,
         pass: &mut RwWriterPass,
         rt: &R,
         wait: W,
     ) -> bool
-        requires own { IsRwWriterPass self.now.lock pass.old }
+        requires own { IsRwValuePass self.now pass.old }
         requires may { W.IsAlwaysCallable wait }
         ensures entered { result ≡ true → HasEnteredToRead (pass_in pass.old) (pass_in pass.new) }
         ensures played { result ≡ true → HasPlayed calls.ReadLock answers.Success (Some kinds.Read) (pass_in pass.old) (pass_in pass.new) }
@@ -100,7 +100,7 @@ impl<T, A: Allocator> RwLock<T, A> {
 
     /// Locks the value for reading, as the lock's `read_lock` does.
     #[inline(always)]
-    pub fn read<'p, R: Wait, W: Fn(&WaitWord, &u64) -> WaitAction>(
+    pub fn read<'p, R: Wait, W: Fn(&RwWriterWord<'p>, &u64) -> WaitAction>(
         pass: &'p mut RwWriterPass,
         this: &'p Self,
         rt: &R,
@@ -126,15 +126,16 @@ impl<T, A: Allocator> RwLock<T, A> {
         }
     }
 
-    /// Locks the lock in front for writing, and leaves the hold in the pass.
+    /// So, for writing.
     #[inline(always)]
-    fn enter_to_write<
+    pub fn enter_to_write<
+        't,
         R: Wait,
-        W: Fn(&WaitWord, &u64) -> WaitAction,
-        K: Fn(&WaitWord),
-        V: Fn(&WaitWord),
-    >(&self, pass: &mut RwWriterPass, rt: &R, wait: W, wake_one: K, wake_all: V) -> bool
-        requires own { IsRwWriterPass self.now.lock pass.old }
+        W: Fn(&RwWriterWord<'t>, &u64) -> WaitAction,
+        K: Fn(&RwWriterWord<'t>),
+        V: Fn(&RwWriterWord<'t>),
+    >(&'t self, pass: &mut RwWriterPass, rt: &R, wait: W, wake_one: K, wake_all: V) -> bool
+        requires own { IsRwValuePass self.now pass.old }
         requires may { W.IsAlwaysCallable wait }
         requires may_one { K.IsAlwaysCallable wake_one }
         requires may_all { V.IsAlwaysCallable wake_all }
@@ -143,8 +144,8 @@ impl<T, A: Allocator> RwLock<T, A> {
         ensures played { result ≡ true → HasPlayed calls.WriteLock answers.Success (Some kinds.Write) (pass_in pass.old) (pass_in pass.new) }
         ensures has { result ≡ true → has_hold kinds.Write (parties_of (pass_in pass.new)) ≡ true }
         ensures refused { result ≡ false → HasGivenUpWriting 10003 (pass_in pass.old) (pass_in pass.new) }
-        ensures woke { result ≡ false → IsMarked (sights_in pass.new).last → HasWoken K.Fn wake_one × HasWoken V.Fn wake_all }
-        ensures gave_up { result ≡ false → HasPlayedGivingUp (pass_in pass.old) (pass_in pass.new) }
+        ensures woke { result ≡ false → IsMarked (sights_in pass.new).last → HasWokenBoth K.Fn V.Fn object_shown index_shown self.now.lock wake_one wake_all }
+        ensures gave_up { result ≡ false → HasPlayedGivingUp (HasWokenBoth K.Fn V.Fn object_shown index_shown self.now.lock wake_one wake_all) (pass_in pass.old) (pass_in pass.new) }
         ensures exact { IsAlone pass.old → result ≡ true }
         ensures aborted { result ≡ false → MayAnswerAbort W.Fn wait (λ n. n < 2 ^ 64) }
     {
@@ -162,9 +163,9 @@ impl<T, A: Allocator> RwLock<T, A> {
     pub fn write<
         'p,
         R: Wait,
-        W: Fn(&WaitWord, &u64) -> WaitAction,
-        K: Fn(&WaitWord),
-        V: Fn(&WaitWord),
+        W: Fn(&RwWriterWord<'p>, &u64) -> WaitAction,
+        K: Fn(&RwWriterWord<'p>),
+        V: Fn(&RwWriterWord<'p>),
     >(
         pass: &'p mut RwWriterPass,
         this: &'p Self,
@@ -177,7 +178,7 @@ impl<T, A: Allocator> RwLock<T, A> {
         requires may { W.IsAlwaysCallable wait }
         requires may_one { K.IsAlwaysCallable wake_one }
         requires may_all { V.IsAlwaysCallable wake_all }
-        ensures* refused { sem 𝓛 (RestsIfInterrupted the_row pass.entry writer_borrow result (λ q. HasGivenUpWriting 10003 (pass_in pass.old) (pass_in q) × (IsMarked (sights_in q).last → HasWoken K.Fn wake_one × HasWoken V.Fn wake_all) × HasPlayedGivingUp (pass_in pass.old) (pass_in q))) }
+        ensures* refused { sem 𝓛 (RestsIfInterrupted the_row pass.entry writer_borrow result (λ q. HasGivenUpWriting 10003 (pass_in pass.old) (pass_in q) × (IsMarked (sights_in q).last → HasWokenBoth K.Fn V.Fn object_shown index_shown this.now.lock wake_one wake_all) × HasPlayedGivingUp (HasWokenBoth K.Fn V.Fn object_shown index_shown this.now.lock wake_one wake_all) (pass_in pass.old) (pass_in q))) }
         ensures same_borrow { IfSuccess result (λ guard. writer_borrow guard ≡ pass.entry.ghost_name) }
         ensures granted { IfSuccess result (λ guard. HasEnteredToWrite (pass_in pass.old) (pass_in (writer_pass guard))) }
         ensures free { IfSuccess result (λ guard. (sights_in (writer_pass guard)).last < 2) }
@@ -198,10 +199,10 @@ impl<T, A: Allocator> RwLock<T, A> {
         }
     }
 
-    /// Tries to lock the lock in front for reading, and leaves the hold in the pass.
+    /// So, for reading, where a reader may enter now.
     #[inline(always)]
-    fn try_to_read(&self, pass: &mut RwWriterPass) -> bool
-        requires own { IsRwWriterPass self.now.lock pass.old }
+    pub fn try_to_read(&self, pass: &mut RwWriterPass) -> bool
+        requires own { IsRwValuePass self.now pass.old }
         ensures entered { result ≡ true → HasEnteredToRead (pass_in pass.old) (pass_in pass.new) }
         ensures at_once { result ≡ true → HasReadAtOnce (pass_in pass.old) (pass_in pass.new) }
         ensures played { result ≡ true → HasPlayed calls.TryReadLock answers.Success (Some kinds.Read) (pass_in pass.old) (pass_in pass.new) }
@@ -245,10 +246,10 @@ impl<T, A: Allocator> RwLock<T, A> {
         }
     }
 
-    /// Tries to lock the lock in front for writing, and leaves the hold in the pass.
+    /// So, for writing, where the lock is free and unmarked now.
     #[inline(always)]
-    fn try_to_write(&self, pass: &mut RwWriterPass) -> bool
-        requires own { IsRwWriterPass self.now.lock pass.old }
+    pub fn try_to_write(&self, pass: &mut RwWriterPass) -> bool
+        requires own { IsRwValuePass self.now pass.old }
         ensures entered { result ≡ true → HasEnteredToWrite (pass_in pass.old) (pass_in pass.new) }
         ensures at_once { result ≡ true → HasWrittenAtOnce (pass_in pass.old) (pass_in pass.new) }
         ensures played { result ≡ true → HasPlayed calls.TryWriteLock answers.Success (Some kinds.Write) (pass_in pass.old) (pass_in pass.new) }
@@ -298,12 +299,13 @@ impl<T, A: Allocator> RwLock<T, A> {
     /// was not called. It borrows nothing, so it serves a method of a struct that owns the value and its pass.
     #[inline(always)]
     pub fn with_read<
+        't,
         X,
         R: Wait,
-        W: Fn(&WaitWord, &u64) -> WaitAction,
-        K: Fn(&WaitWord),
+        W: Fn(&RwWriterWord<'t>, &u64) -> WaitAction,
+        K: Fn(&RwWriterWord<'t>),
         F: FnOnce(&T) -> X,
-    >(&self, rt: &R, pass: &mut RwWriterPass, wait: W, wake_one: K, act: F) -> WaitResult<X>
+    >(&'t self, rt: &R, pass: &mut RwWriterPass, wait: W, wake_one: K, act: F) -> WaitResult<X>
         requires own { IsRwValuePass self.now pass.old }
         requires may { W.IsAlwaysCallable wait × K.IsAlwaysCallable wake_one × F.IsAlwaysCallable act }
         ensures stayed { HasStayed pass.old pass.new }
@@ -313,30 +315,33 @@ impl<T, A: Allocator> RwLock<T, A> {
         ensures exact { IsAlone pass.old → IsSuccess result }
         ensures acted { IfSuccess result (λ x. Looks F.FnOnce act x) }
         ensures aborted { IfInterrupted result (MayAnswerAbort W.Fn wait IsShut) }
-        ensures woke { IfSuccess result (λ _. (sights_in pass.new).last ≡ 3 → HasWoken K.Fn wake_one) }
+        ensures woke { IfSuccess result (λ _. (sights_in pass.new).last ≡ 3 → HasWokenOne K.Fn object_shown index_shown self.now.lock wake_one) }
     {
-        match RwLock::read(pass, self, rt, wait) {
-            WaitResult::Success(guard) => {
-                let given = act(&*guard);
-                RwLock::unlock_read(guard, wake_one);
-                WaitResult::Success(given)
-            }
-            WaitResult::Interrupted => WaitResult::Interrupted,
+        let entered = self.enter_to_read(pass, rt, wait);
+        if !entered {
+            return WaitResult::Interrupted;
         }
+        let value = self.value.read(rt);
+        let given = act(&*value);
+        drop(value);
+        self.lock
+            .unlock(RwHold::Read(read_hold(pass)), wake_one, nobody);
+        WaitResult::Success(given)
     }
 
     /// Locks the value as `write` does, calls `act` with it, and unlocks as `unlock_write` does. `Interrupted` where `write` is; then
     /// `act` was not called. It borrows nothing.
     #[inline(always)]
     pub fn with_write<
+        't,
         X,
         R: Wait,
-        W: Fn(&WaitWord, &u64) -> WaitAction,
-        K: Fn(&WaitWord),
-        V: Fn(&WaitWord),
+        W: Fn(&RwWriterWord<'t>, &u64) -> WaitAction,
+        K: Fn(&RwWriterWord<'t>),
+        V: Fn(&RwWriterWord<'t>),
         F: FnOnce(&mut T) -> X,
     >(
-        &self,
+        &'t self,
         rt: &R,
         pass: &mut RwWriterPass,
         wait: W,
@@ -349,22 +354,22 @@ impl<T, A: Allocator> RwLock<T, A> {
         ensures stayed { HasStayed pass.old pass.new }
         ensures written { IfSuccess result (λ _. HasWrittenOnce pass.old pass.new) }
         ensures refused { IfInterrupted result (HasGivenUpWriting 10003 (pass_in pass.old) (pass_in pass.new)) }
-        ensures gave_up { IfInterrupted result (HasPlayedGivingUp (pass_in pass.old) (pass_in pass.new)) }
+        ensures gave_up { IfInterrupted result (HasPlayedGivingUp (HasWokenBoth K.Fn V.Fn object_shown index_shown self.now.lock wake_one wake_all) (pass_in pass.old) (pass_in pass.new)) }
         ensures exact { IsAlone pass.old → IsSuccess result }
         ensures acted { IfSuccess result (λ x. Acts F.FnOnce act x) }
         ensures aborted { IfInterrupted result (MayAnswerAbort W.Fn wait (λ n. n < 2 ^ 64)) }
-        ensures woke { IfSuccess result (λ _. HasWoken K.Fn wake_one × HasWoken V.Fn wake_all) }
-        ensures woke_giving_up { IfInterrupted result (IsMarked (sights_in pass.new).last → HasWoken K.Fn wake_one × HasWoken V.Fn wake_all) }
+        ensures woke { IfSuccess result (λ _. HasWokenBoth K.Fn V.Fn object_shown index_shown self.now.lock wake_one wake_all) }
+        ensures woke_giving_up { IfInterrupted result (IsMarked (sights_in pass.new).last → HasWokenBoth K.Fn V.Fn object_shown index_shown self.now.lock wake_one wake_all) }
     {
         let entered = self.enter_to_write(
             pass,
             rt,
             wait,
-            |word: &WaitWord| -> ()
+            |word| -> ()
                 requires { K.IsAlwaysCallable wake_one }
                 ensures { K.post wake_one word.entry result }
             { wake_one(word) },
-            |word: &WaitWord| -> ()
+            |word| -> ()
                 requires { V.IsAlwaysCallable wake_all }
                 ensures { V.post wake_all word.entry result }
             { wake_all(word) },
@@ -382,7 +387,7 @@ impl<T, A: Allocator> RwLock<T, A> {
 
     /// Gives the value back, and then unlocks as the lock's `unlock` does with a read hold. Gives the pass back.
     #[inline(always)]
-    pub fn unlock_read<'p, K: Fn(&WaitWord)>(
+    pub fn unlock_read<'p, K: Fn(&RwWriterWord<'p>)>(
         guard: ReadGuard<'p, T, A>,
         wake_one: K,
     ) -> &'p mut RwWriterPass
@@ -390,7 +395,7 @@ impl<T, A: Allocator> RwLock<T, A> {
         ensures same_borrow { result.ghost_name ≡ reader_borrow guard.entry }
         ensures released { HasLeftReading (pass_in (reader_pass guard.entry)) (pass_in result.now) }
         ensures played { PlaysUnlock kinds.Read (reader_pass guard.entry) result.now }
-        ensures woke { (sights_in result.now).last ≡ 3 → HasWoken K.Fn wake_one }
+        ensures woke { (sights_in result.now).last ≡ 3 → HasWokenOne K.Fn object_shown index_shown guard.entry.of.now.lock wake_one }
     {
         let ReadGuard { of, pass, value } = guard;
         drop(value);
@@ -400,7 +405,7 @@ impl<T, A: Allocator> RwLock<T, A> {
 
     /// Gives the value back, and then unlocks as the lock's `unlock` does with the write hold. Gives the pass back.
     #[inline(always)]
-    pub fn unlock_write<'p, K: Fn(&WaitWord), V: Fn(&WaitWord)>(
+    pub fn unlock_write<'p, K: Fn(&RwWriterWord<'p>), V: Fn(&RwWriterWord<'p>)>(
         guard: WriteGuard<'p, T, A>,
         wake_one: K,
         wake_all: V,
@@ -410,12 +415,34 @@ impl<T, A: Allocator> RwLock<T, A> {
         ensures same_borrow { result.ghost_name ≡ writer_borrow guard.entry }
         ensures released { HasLeftWriting (pass_in (writer_pass guard.entry)) (pass_in result.now) }
         ensures played { PlaysUnlock kinds.Write (writer_pass guard.entry) result.now }
-        ensures woke { HasWoken K.Fn wake_one × HasWoken V.Fn wake_all }
+        ensures woke { HasWokenBoth K.Fn V.Fn object_shown index_shown guard.entry.held.of.now wake_one wake_all }
     {
         let WriteGuard { value, held } = guard;
         let Writing { of, pass } = held;
         drop(value);
         of.unlock(RwHold::Write(write_hold(pass)), wake_one, wake_all)
+    }
+
+    /// The value, for a handle whose pass has a read hold.
+    #[inline(always)]
+    pub fn lend<R: Wait>(&self, rt: &R, pass: &RwWriterPass) -> RwLockReadGuard<'_, T>
+        requires own { IsRwValuePass self.now pass.now }
+        requires on { 0 < reads_of (pass_in pass.now) }
+        requires has { has_hold kinds.Read (parties_of (pass_in pass.now)) ≡ true }
+    {
+        let _pass = pass;
+        self.value.read(rt)
+    }
+
+    /// The value, for a handle whose pass has the write hold.
+    #[inline(always)]
+    pub fn lend_mut<R: Wait>(&self, rt: &R, pass: &RwWriterPass) -> RwLockWriteGuard<'_, T>
+        requires own { IsRwValuePass self.now pass.now }
+        requires on { writes_of (pass_in pass.now) ≡ 1 }
+        requires has { has_hold kinds.Write (parties_of (pass_in pass.now)) ≡ true }
+    {
+        let _pass = pass;
+        self.value.write(rt)
     }
 
     /// The lock in front, at which passes are split and joined. Who locks it by its own calls has no way to the value.
@@ -438,4 +465,4 @@ impl<T, A: Allocator> RwLock<T, A> {
 
 /// Nobody is to be woken: a reader that leaves wakes no readers.
 #[inline(always)]
-fn nobody(_word: &WaitWord) {}
+fn nobody(_word: &RwWriterWord) {}

@@ -8,8 +8,8 @@ use Rattle.running_passes.proofs.Sums.{sum_of_two}
 use Rattle.running_model.proofs.OfARun.{of_a_run}
 use Rattle.running_model.proofs.Steps.{told_so, found_there}
 use Rattle.running_model.proofs.Words.{hold_at}
-use Rattle.running_tallies.specs.HeldKeeps.{parts}
-use Rattle.running_tallies.specs.RwWriter.{marked_add_up, held_in}
+use Rattle.running_rw_hold.specs.HeldKeeps.{parts}
+use Rattle.running_rw_writer.specs.RwWriter.{marked_add_up, held_in}
 use Rattle.model_rw_writer.specs.Table.{rw_writer_table}
 
 -- with what the others count

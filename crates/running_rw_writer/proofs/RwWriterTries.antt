@@ -1,5 +1,5 @@
 -- What a writer's sights and tries come to, one after another.
-use Rattle.running_rw_writer.proofs.Names.{is_some, MatchBool, Sights, Pass, IsSamePass, sights_of, seen, counts_of, counted, wrote, flagged, ◌≡◌, ◌≢◌, ℕ, ◌+◌, ◌-◌, ◌%◌, ◌^◌, ◌<◌, not, Bool, true, Option, Some, None, ◌≤◌, arith, eqb-true, eqb-false, nat_tests, HasTried, HasJustSeen, HasMissedIt, MayGiveUp, HasGivenUpWriting, HasEnteredSeenFree, PlayedRwWriter, IsMarked, IsSeenByWriter, Missed, WriterIn}
+use Rattle.running_rw_writer.proofs.Names.{is_some, MatchBool, Sights, Pass, IsSamePass, sights_of, seen, counts_of, counted, wrote, flagged, ◌≡◌, ◌≢◌, ℕ, ◌+◌, ◌-◌, ◌%◌, ◌^◌, ◌<◌, not, Bool, true, Option, Some, None, ◌≤◌, arith, eqb-true, eqb-false, nat_tests, HasTried, HasJustSeen, HasMissedIt, MayGiveUp, HasGivenUpWriting, HasEnteredSeenFree, PlayedRwWriter, IsMarked, IsSeenByWriter, Missed, WriterIn, HasPlayedGivingUp, inl, inr}
 
 -- what a function of the lock's model says of a word, by whether it answers another word
 
@@ -59,6 +59,11 @@ pub gave_up_after : (m n : ℕ) (p q r : Pass PlayedRwWriter) → HasTried m p q
 gave_up_after m n p q r h1 h2 = grind (arith, nat_tests, eqb-true, eqb-false)
 
 -- nothing was counted after it
+-- a call that gave up, with less of its wakes
+pub gives_up_by : (Woke Less : Type 0) (p q : Pass PlayedRwWriter) → (Woke → Less) → HasPlayedGivingUp Woke p q → HasPlayedGivingUp Less p q
+gives_up_by Woke Less p q less (inl over) = inl over
+gives_up_by Woke Less p q less (inr wakes) = inr (wakes.0, less wakes.1)
+
 pub gave_up_still : (n : ℕ) (p q r : Pass PlayedRwWriter) → HasGivenUpWriting n p q → IsSamePass q r → counted r ≡ counted q → HasGivenUpWriting n p r
 gave_up_still n p q r h1 h2 h3 = grind (arith, nat_tests, eqb-true, eqb-false)
 

@@ -17,7 +17,6 @@ pub use Rattle.running_model.specs.Plays.{Coming, Answered, ComesBy, IsHolding, 
 pub use Rattle.running_model.specs.Slots.{Slot, Parties, all_of}
 pub use Rattle.running_model.specs.Tries.{spun, IsGranted, StandsToWait}
 pub use Rattle.running_model.specs.Words.{IsNamed, IsStepOn}
-pub use Rattle.running_passes.specs.Answers.{HasWoken}
 pub use Rattle.running_passes.specs.Parts.{IsWhole, Each}
 pub use Rattle.running_passes.specs.Passes.{IsSamePass, view, part_of, sights_of}
 pub use Rattle.running_passes.specs.Sights.{seen_instead, seen}
@@ -28,10 +27,10 @@ pub use Rattle.running_passes.specs.declared.pass.Pass.{Pass}
 pub use Rattle.running_passes.specs.declared.view.View.{View}
 pub use Rattle.running_rw_hold.specs.declared.hold.RwHold.{RwHold}
 pub use Rattle.running_rw_hold.specs.declared.hold.RwPass.{Ghosts}
-pub use Rattle.running_tallies.specs.Held.{read_holds, write_holds, Knows, same_nothing, tells_same_nothing}
-pub use Rattle.running_tallies.specs.RwReader.{no_holds, Holds, both_holds}
-pub use Rattle.running_tallies.specs.RwWriter.{read, no_more_read, written, no_more_written, flagged, nothing_marked, both_marked, lowered, AreMarkedIn, IsMarkedOrHeld, marked_sees, marked_after, marked_needed, rw_writer_model, rw_writer_handed}
-pub use Rattle.running_tallies.specs.declared.rw_writer.MarkedHolds.{MarkedHolds}
+pub use Rattle.running_rw_hold.specs.Held.{read_holds, write_holds, Knows, same_nothing, tells_same_nothing}
+pub use Rattle.running_rw_hold.specs.RwReader.{no_holds, Holds, both_holds}
+pub use Rattle.running_rw_writer.specs.RwWriter.{read, no_more_read, written, no_more_written, flagged, nothing_marked, both_marked, lowered, AreMarkedIn, IsMarkedOrHeld, marked_sees, marked_after, marked_needed, rw_writer_model, rw_writer_handed}
+pub use Rattle.running_rw_writer.specs.declared.marked.MarkedHolds.{MarkedHolds}
 pub use Rattle.std.specs.Prelude.{is_some}
 pub use mathlib.Core.Logic.{dite}
 pub use native.Mathlib.Decide.{ℕ_discrete}

@@ -49,8 +49,8 @@ abbrev pub WriteIsGranted : List (Slot ℕ) → Parties ℕ → Type 0
 WriteIsGranted done p = HasEnded rw_writer_model Call.WriteLock Answer.Success (Some HoldKind.Write) done p
 
 -- it gave up: it is answered so, or has taken a mark away and counted, and is to wake one and then all
-abbrev pub WriteGivesUp : List (Slot ℕ) → Parties ℕ → Type 0
-WriteGivesUp done p = WriteGoes (After.Ends Answer.Interrupted) done p ⊎ WriteGoes (After.At (RwWriterPlace.WakeOne Leaver.GivenUp)) done p
+abbrev pub WriteGivesUp : Type 0 → List (Slot ℕ) → Parties ℕ → Type 0
+WriteGivesUp Woke done p = WriteGoes (After.Ends Answer.Interrupted) done p ⊎ (WriteGoes (After.At (RwWriterPlace.WakeOne Leaver.GivenUp)) done p × Woke)
 
 -- what follows wherever a `WriteLock` went on so
 abbrev pub OnceWriting : After ℕ RwWriterPlace → Parties ℕ → (List (Slot ℕ) → Type 0) → Type 0

@@ -1,7 +1,11 @@
 -- What contracts see of a writer-preferring lock and its pass, and what a call changes in a pass.
 use Rattle.std.specs.Prelude.{◌≡◌, ◌≢◌, true, false, ◌⊎◌, ℕ, Option, ◌+◌, ◌-◌, ◌*◌, ◌%◌, ◌^◌, ◌<◌, ◌≤◌}
 use Rattle.running_rw_writer.specs.Names.{Part, Sights, View, Pass, IsWhole, IsSamePass, view, part_of, sights_of, looked, missed, wrote, HasCalled, all_of, parties_of, tally_of, counted, HasOnlySeen, HasMoved, Call, Answer, HoldKind, rw_writer_model, Ghosts, RwHold, MarkedHolds, read_holds, write_holds, read, no_more_read, written, no_more_written, flagged}
-use Rattle.running_model.specs.Stages.{IsPassOf}
+use Rattle.atomic_table.specs.Seated.{TableId}
+use Rattle.running_model.specs.Asked.{HasWokenOf}
+use Rattle.running_model.specs.Stages.{IsPassOf, id_of}
+use Rattle.std.specs.Borrow.{Bor}
+use Rattle.std.specs.Fn.{Shared}
 use Rattle.running_rw_writer.specs.declared.RwLockWriterPreference.{RwLockWriterPreference}
 use Rattle.running_rw_writer.specs.declared.pass.RwWriterPass.{RwWriterPass}
 use Rattle.running_rw_hold.specs.RwShown.{IsReadHold, IsWriteHold, kind_of, pass_of, TurnsAway}
@@ -12,8 +16,21 @@ use Rattle.running_rw_writer.specs.RwWriterSteps.{PlayedRwWriter, IsMarked, IsOn
 abbrev pub pass_in : RwWriterPass → Pass PlayedRwWriter
 pass_in p = p.pass
 
-abbrev pub IsRwWriterPass : {A : Type 0} → RwLockWriterPreference A → RwWriterPass → Type 0
+abbrev pub IsRwWriterPass : {A S : Type 0} → RwLockWriterPreference A S → RwWriterPass → Type 0
 IsRwWriterPass l p = IsPassOf l.stage (pass_in p)
+
+-- this is that one of its words, by its object and which of that object's words it is: 0 is the lock's, 1 its wake counter
+abbrev pub IsItsWord : {A S : Type 0} → ℕ → RwLockWriterPreference A S → TableId → ℕ → Type 0
+IsItsWord which l object index = (object ≡ id_of l.stage) × (index ≡ which)
+
+module _ {X A S F : Type 0} where
+  -- what the closure that wakes one writer promises of a call holds, of the wake counter
+  abbrev pub HasWokenOne : Shared F (Bor X × Unit {0}) (Unit {0}) → (X → TableId) → (X → ℕ) → RwLockWriterPreference A S → F → Type 0
+  HasWokenOne g object index l one = HasWokenOf g (λ word. IsItsWord 1 l (object word) (index word)) one
+
+  -- so, and what the one that wakes all readers promises, of the lock's word
+  abbrev pub HasWokenBoth : {G : Type 0} → Shared F (Bor X × Unit {0}) (Unit {0}) → Shared G (Bor X × Unit {0}) (Unit {0}) → (X → TableId) → (X → ℕ) → RwLockWriterPreference A S → F → G → Type 0
+  HasWokenBoth g h object index l one all = HasWokenOne g object index l one × HasWokenOf h (λ word. IsItsWord 0 l (object word) (index word)) all
 
 -- what the pass knows
 abbrev pub known_by : RwWriterPass → View PlayedRwWriter
@@ -157,8 +174,8 @@ abbrev pub HasPlayed : Call ℕ → Answer ℕ → Option HoldKind → Pass Play
 HasPlayed call answer hold p q = HasCalled rw_writer_model call answer hold (parties_of p) (parties_of q)
 
 -- so a `write_lock` that gave up, but where it has taken a mark away it is to wake one and then all
-abbrev pub HasPlayedGivingUp : Pass PlayedRwWriter → Pass PlayedRwWriter → Type 0
-HasPlayedGivingUp p q = WriteGivesUp (all_of (parties_of p)) (parties_of q)
+abbrev pub HasPlayedGivingUp : Type 0 → Pass PlayedRwWriter → Pass PlayedRwWriter → Type 0
+HasPlayedGivingUp Woke p q = WriteGivesUp Woke (all_of (parties_of p)) (parties_of q)
 
 -- the party that had this hold has let it go, and counted where it has to; it is answered, or is to wake
 abbrev pub HasPlayedUnlock : {G : Ghosts RwWriterPass} → RwHold RwWriterPass G → RwWriterPass → Type 0

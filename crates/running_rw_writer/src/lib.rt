@@ -11,61 +11,72 @@ ghost use Rattle.std.specs.Prelude.{◌≡◌};
 ghost use Rattle.running_model.specs.Stages.{count_of};
 ghost use Rattle.running_rw_writer.specs.RwWriterSteps.{GrantsAreOfARun, NoHoldBesideTheWriter, NoMarkWithoutAFlag};
 
+mod marked;
 mod pass;
 mod reading;
 mod shares;
 mod steps;
 mod writing;
 
+pub use marked::{MarkedHolds, PlayedRwWriter, RwWriterScript};
 use model_events::WaitAction;
 use model_rw_writer::RwWriterPlace;
 pub use pass::RwWriterPass;
-use running_model::Stage;
-use running_passes::WaitResult;
+use running_model::{OwnWords, Shows, Stage};
+use running_passes::{WaitResult, Word};
 use running_rw_hold::{
     RwHold, end_read_hold, end_write_hold, read_hold, try_to_read, wait_to_read, write_hold,
 };
-use running_tallies::{MarkedHolds, RwWriterScript, WaitWord};
 use std::alloc::{AllocError, Allocator, Global};
+use std::marker::PhantomData;
 use std::sync::Wait;
 
 /// A lock of many readers or one writer. Where a writer waits it sets a mark, and no reader enters until the mark is taken away.
 #[derive(Drop)]
-pub struct RwLockWriterPreference<A: Allocator = Global> {
+pub struct RwLockWriterPreference<A: Allocator = Global, S = OwnWords> {
     stage: Stage<(), RwWriterScript, RwWriterPlace, u64, MarkedHolds, A>,
+    shows: PhantomData<S>,
     ghost two_words: { count_of stage ≡ 2 },
 }
+
+/// Either word of a writer-preferring lock, as wait and wake closures see it: its own, or its wake counter. It can be loaded and slept on,
+/// and no more.
+pub type RwWriterWord<'t> = Word<'t, (), PlayedRwWriter>;
 
 /// Which of the two words is the lock's, and which is the wake counter.
 const LOCK: usize = 0;
 
 const COUNTER: usize = 1;
 
-impl<A: Allocator> RwLockWriterPreference<A> {
+impl<A: Allocator, S> RwLockWriterPreference<A, S> {
     ghost use Rattle.std.specs.Borrow.{sem};
     ghost use Rattle.std.specs.Prelude.{◌^◌, ◌<◌, IfOk, Some, None};
     ghost use Rattle.model_events.specs.declared.event.Call.TheVariants as calls;
     ghost use Rattle.model_events.specs.declared.event.Answer.TheVariants as answers;
     ghost use Rattle.model_events.specs.declared.hold.HoldKind.TheVariants as kinds;
-    ghost use Rattle.running_passes.specs.Answers.{IfSuccess, IfInterrupted, IsSuccess, RestsIfInterrupted, MayAnswerAbort, HasAsked, HasWoken};
+    ghost use Rattle.running_passes.specs.Answers.{IfSuccess, IfInterrupted, IsSuccess, RestsIfInterrupted, MayAnswerAbort, HasAsked};
     ghost use Rattle.running_passes.specs.Parts.{IsWhole};
     ghost use Rattle.running_model.specs.Slots.{no_parties};
     ghost use Rattle.running_model.specs.Passes.{played, counts_of as tally_of};
     ghost use Rattle.running_model.specs.Counts.{WasRefused};
     ghost use Rattle.running_passes.specs.Views.{first_view};
     ghost use Rattle.running_rw_writer.specs.contracts.pass.RwWriterPass.{the_row};
-    ghost use Rattle.running_tallies.specs.RwWriter.{nothing_marked};
+    ghost use Rattle.running_rw_writer.specs.RwWriter.{nothing_marked};
     ghost use Rattle.running_rw_hold.specs.RwShown.{IsReadHold, IsWriteHold, pass_of, borrow_of};
     ghost use Rattle.running_rw_writer.specs.RwWriterSteps.{IsMarked, word_of};
-    ghost use Rattle.running_rw_writer.specs.RwWriterShown.{IsRwWriterPass, IsAlone, IsShut, pass_in, known_by, part_in, sights_in, HasEnteredToRead, HasEnteredToWrite, HasReadAtOnce, HasWrittenAtOnce, HasSeenTaken, HasGivenUpWriting, HasUnlocked, WasTurnedAway, HasPlayed, HasPlayedGivingUp, HasPlayedUnlock};
+    ghost use Rattle.running_rw_writer.specs.RwWriterShown.{IsRwWriterPass, IsAlone, IsShut, HasWokenOne, HasWokenBoth, pass_in, known_by, part_in, sights_in, HasEnteredToRead, HasEnteredToWrite, HasReadAtOnce, HasWrittenAtOnce, HasSeenTaken, HasGivenUpWriting, HasUnlocked, WasTurnedAway, HasPlayed, HasPlayedGivingUp, HasPlayedUnlock};
 
     /// A lock that is free, and the pass that is whole. `Err` where there was no memory; then nothing was made.
-    pub fn new(alloc: A) -> Result<(RwLockWriterPreference<A>, RwWriterPass), AllocError>
+    pub fn new(alloc: A) -> Result<(RwLockWriterPreference<A, S>, RwWriterPass), AllocError>
         ensures own { IfOk result (λ made. IsRwWriterPass made.0 made.1) }
         ensures first { IfOk result (λ made. known_by made.1 ≡ first_view (played no_parties nothing_marked)) }
     {
         let (stage, pass) = Stage::new(alloc, &[0, 0], &())?;
-        Ok((RwLockWriterPreference { stage }, RwWriterPass { pass }))
+        let shows = PhantomData;
+        Ok((
+            RwLockWriterPreference { stage, shows },
+            RwWriterPass { pass },
+        ))
     }
 
     /// Locks for reading: one look and, where a reader enters, one exchange. `Interrupted` where a writer is in or waits, or there is no
@@ -95,12 +106,19 @@ impl<A: Allocator> RwLockWriterPreference<A> {
     /// looks up to 10000 times more, and then calls the wait closure before each further look, with the lock's word and the value seen.
     /// `Interrupted` where a look saw that no reader enters after the closure had answered `Abort`; then this call holds nothing.
     #[inline(always)]
-    pub fn read_lock<'p, R: Wait, W: Fn(&WaitWord, &u64) -> WaitAction>(
+    pub fn read_lock<
+        'p,
+        't,
+        R: Wait,
+        W: Fn(&<S as Shows<'t, RwWriterWord<'t>>>::As, &u64) -> WaitAction,
+    >(
         pass: &'p mut RwWriterPass,
-        this: &Self,
+        this: &'t Self,
         rt: &R,
         wait: W,
     ) -> WaitResult<RwHold<'p, RwWriterPass>>
+    where
+        S: Shows<'t, RwWriterWord<'t>>,
         requires own { IsRwWriterPass this.now pass.old }
         requires may { W.IsAlwaysCallable wait }
         ensures* refused { sem 𝓛 (RestsIfInterrupted the_row pass.entry borrow_of result (λ q. WasRefused IsShut 10002 (pass_in pass.old) (pass_in q) × (IsWhole (part_in pass.old) → HasAsked W.Fn wait IsShut 10001 (pass_in pass.old) (pass_in q)) × HasPlayed calls.ReadLock answers.Interrupted None (pass_in pass.old) (pass_in q))) }
@@ -111,7 +129,7 @@ impl<A: Allocator> RwLockWriterPreference<A> {
         ensures exact { IsAlone pass.old → IsSuccess result }
         ensures aborted { IfInterrupted result (MayAnswerAbort W.Fn wait IsShut) }
     {
-        if wait_to_read(this, &mut pass.pass, rt, &wait) {
+        if wait_to_read(this, &mut pass.pass, rt, &this.word(), wait) {
             WaitResult::Success(RwHold::Read(read_hold(pass)))
         } else {
             WaitResult::Interrupted
@@ -121,24 +139,32 @@ impl<A: Allocator> RwLockWriterPreference<A> {
     /// With a read hold subtracts 2; where that leaves the mark alone it adds 1 to the counter, and calls `wake_one` with it. With the
     /// write hold stores 0, adds 1 to the counter, calls `wake_one` with it, and `wake_all` with the lock's word. Gives the pass back.
     #[inline(always)]
-    pub fn unlock<'p, W: Fn(&WaitWord), V: Fn(&WaitWord)>(
-        &self,
-        hold: RwHold<'p, RwWriterPass>,
-        wake_one: W,
-        wake_all: V,
-    ) -> &'p mut RwWriterPass
+    pub fn unlock<
+        'p,
+        't,
+        W: Fn(&<S as Shows<'t, RwWriterWord<'t>>>::As),
+        V: Fn(&<S as Shows<'t, RwWriterWord<'t>>>::As),
+    >(&'t self, hold: RwHold<'p, RwWriterPass>, wake_one: W, wake_all: V) -> &'p mut RwWriterPass
+    where
+        S: Shows<'t, RwWriterWord<'t>>,
         requires own { IsRwWriterPass self.now (pass_of hold) }
         requires may_one { W.IsAlwaysCallable wake_one }
         requires may_all { V.IsAlwaysCallable wake_all }
         ensures same_borrow { result.ghost_name ≡ borrow_of hold.entry }
         ensures released { HasUnlocked hold.entry result.now }
         ensures played { HasPlayedUnlock hold.entry result.now }
-        ensures woke_one { IsReadHold hold.entry → (sights_in result.now).last ≡ 3 → HasWoken W.Fn wake_one }
-        ensures woke_both { IsWriteHold hold.entry → HasWoken W.Fn wake_one × HasWoken V.Fn wake_all }
+        ensures woke_one { IsReadHold hold.entry → (sights_in result.now).last ≡ 3 → HasWokenOne W.Fn S.As.Shown.object S.As.Shown.index self.now wake_one }
+        ensures woke_both { IsWriteHold hold.entry → HasWokenBoth W.Fn V.Fn S.As.Shown.object S.As.Shown.index self.now wake_one wake_all }
     {
         match hold {
-            RwHold::Read(hold) => self.unlock_read(end_read_hold(hold), wake_one),
-            RwHold::Write(hold) => self.unlock_write(end_write_hold(hold), wake_one, wake_all),
+            RwHold::Read(hold) => self.unlock_read(end_read_hold(hold), &self.counter(), wake_one),
+            RwHold::Write(hold) => self.unlock_write(
+                end_write_hold(hold),
+                &self.counter(),
+                &self.word(),
+                wake_one,
+                wake_all,
+            ),
         }
     }
 
@@ -173,23 +199,26 @@ impl<A: Allocator> RwLockWriterPreference<A> {
     #[inline(always)]
     pub fn write_lock<
         'p,
+        't,
         R: Wait,
-        W: Fn(&WaitWord, &u64) -> WaitAction,
-        K: Fn(&WaitWord),
-        V: Fn(&WaitWord),
+        W: Fn(&<S as Shows<'t, RwWriterWord<'t>>>::As, &u64) -> WaitAction,
+        K: Fn(&<S as Shows<'t, RwWriterWord<'t>>>::As),
+        V: Fn(&<S as Shows<'t, RwWriterWord<'t>>>::As),
     >(
         pass: &'p mut RwWriterPass,
-        this: &Self,
+        this: &'t Self,
         rt: &R,
         wait: W,
         wake_one: K,
         wake_all: V,
     ) -> WaitResult<RwHold<'p, RwWriterPass>>
+    where
+        S: Shows<'t, RwWriterWord<'t>>,
         requires own { IsRwWriterPass this.now pass.old }
         requires may { W.IsAlwaysCallable wait }
         requires may_one { K.IsAlwaysCallable wake_one }
         requires may_all { V.IsAlwaysCallable wake_all }
-        ensures* refused { sem 𝓛 (RestsIfInterrupted the_row pass.entry borrow_of result (λ q. HasGivenUpWriting 10003 (pass_in pass.old) (pass_in q) × (IsMarked (sights_in q).last → HasWoken K.Fn wake_one × HasWoken V.Fn wake_all) × HasPlayedGivingUp (pass_in pass.old) (pass_in q))) }
+        ensures* refused { sem 𝓛 (RestsIfInterrupted the_row pass.entry borrow_of result (λ q. HasGivenUpWriting 10003 (pass_in pass.old) (pass_in q) × (IsMarked (sights_in q).last → HasWokenBoth K.Fn V.Fn S.As.Shown.object S.As.Shown.index this.now wake_one wake_all) × HasPlayedGivingUp (HasWokenBoth K.Fn V.Fn S.As.Shown.object S.As.Shown.index this.now wake_one wake_all) (pass_in pass.old) (pass_in q))) }
         ensures same_borrow { IfSuccess result (λ hold. borrow_of hold ≡ pass.entry.ghost_name) }
         ensures kind { IfSuccess result IsWriteHold }
         ensures granted { IfSuccess result (λ hold. HasEnteredToWrite (pass_in pass.old) (pass_in (pass_of hold))) }
@@ -198,7 +227,15 @@ impl<A: Allocator> RwLockWriterPreference<A> {
         ensures exact { IsAlone pass.old → IsSuccess result }
         ensures aborted { IfInterrupted result (MayAnswerAbort W.Fn wait (λ n. n < 2 ^ 64)) }
     {
-        if this.wait_to_write(&mut pass.pass, rt, &wait, &wake_one, &wake_all) {
+        if this.wait_to_write(
+            &mut pass.pass,
+            rt,
+            &this.counter(),
+            &this.word(),
+            &wait,
+            &wake_one,
+            &wake_all,
+        ) {
             WaitResult::Success(RwHold::Write(write_hold(pass)))
         } else {
             WaitResult::Interrupted
@@ -211,7 +248,7 @@ impl<A: Allocator> RwLockWriterPreference<A> {
         ensures exact { IsWhole (part_in pass) → result ≡ word_of (tally_of (pass_in pass)) }
         ensures free { IsAlone pass → result ≡ 0 }
     {
-        let RwLockWriterPreference { stage } = self;
+        let RwLockWriterPreference { stage, shows: _ } = self;
         let RwWriterPass { pass } = pass;
         stage.close(pass, LOCK)
     }

@@ -2,10 +2,9 @@
 ghost use Rattle.std.specs.Prelude.{◌≡◌, IfOk};
 ghost use Rattle.running_model.specs.Passes.{parties_of, counts_of};
 
-use crate::RwLockWriterPreference;
+use crate::{PlayedRwWriter, RwLockWriterPreference};
 use running_passes::Pass;
 use running_rw_hold::RwPass;
-use running_tallies::PlayedRwWriter;
 use std::alloc::Allocator;
 
 /// The right to call a writer-preferring lock, and what its owner did and saw there. No mark of its owner stands: its flag is down.
@@ -18,7 +17,7 @@ pub struct RwWriterPass {
 // What its holds come to, and which of them its party has.
 impl RwPass for RwWriterPass {
     ghost use Rattle.model_events.specs.declared.hold.HoldKind.TheVariants as kinds;
-    ghost use Rattle.running_tallies.specs.Held.{read_holds, write_holds};
+    ghost use Rattle.running_rw_hold.specs.Held.{read_holds, write_holds};
     ghost use Rattle.running_rw_writer.specs.RwWriterParties.{has_hold};
 
     ghost reads = { λ p. read_holds (counts_of p.pass).held };
@@ -36,14 +35,14 @@ impl RwWriterPass {
     ghost use Rattle.running_passes.specs.Parts.{half, IsAgain, IsSamePart, AddUp};
     ghost use Rattle.running_passes.specs.Views.{left_view, right_view, joined_view};
     ghost use Rattle.running_model.specs.Passes.{none_played, both_played};
-    ghost use Rattle.running_tallies.specs.RwWriter.{nothing_marked, both_marked};
+    ghost use Rattle.running_rw_writer.specs.RwWriter.{nothing_marked, both_marked};
     ghost use Rattle.running_rw_writer.specs.RwWriterShown.{IsRwWriterPass, known_by, part_in};
 
     /// Two passes of the same lock. What they counted adds up to what this one had counted, and both know what it knew; they weigh
     /// together what it weighed. `Err`, which never comes today, would hand the pass back.
-    pub fn split<A: Allocator>(
+    pub fn split<A: Allocator, S>(
         self,
-        of: &RwLockWriterPreference<A>,
+        of: &RwLockWriterPreference<A, S>,
     ) -> Result<(RwWriterPass, RwWriterPass), RwWriterPass>
         requires own { IsRwWriterPass of.now self }
         ensures never_refused { is_ok result ≡ true }
@@ -60,10 +59,10 @@ impl RwWriterPass {
 
     /// One pass from two of the same lock, which counted and knows what both did, and weighs what both weighed. `Err`, which never
     /// comes today, would hand both back.
-    pub fn join<A: Allocator>(
+    pub fn join<A: Allocator, S>(
         a: RwWriterPass,
         b: RwWriterPass,
-        of: &RwLockWriterPreference<A>,
+        of: &RwLockWriterPreference<A, S>,
     ) -> Result<RwWriterPass, (RwWriterPass, RwWriterPass)>
         requires own { IsRwWriterPass of.now a × IsRwWriterPass of.now b }
         ensures never_refused { is_ok result ≡ true }

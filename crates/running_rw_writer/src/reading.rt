@@ -2,18 +2,17 @@
 ghost use Rattle.std.specs.Prelude.{◌≡◌, ◌+◌, ◌<◌};
 
 use crate::steps::PlayedPass;
-use crate::{LOCK, RwLockWriterPreference, RwWriterPass};
+use crate::{LOCK, MarkedHolds, RwLockWriterPreference, RwWriterPass, RwWriterScript};
 use model_rw_writer::{RwWriterPlace, is_last_reader, reader_enters};
-use running_model::Sealed;
 use running_model::calls::UnlockCall;
 use running_model::turn::{Goes, Turn, Way, begin_held};
+use running_model::{Sealed, Shown};
 use running_rw_hold::ReadSteps;
-use running_tallies::{MarkedHolds, RwWriterScript, WaitWord};
 use std::alloc::Allocator;
 
 /// A load, and an exchange of the value seen for two more.
-impl<A: Allocator> ReadSteps<RwWriterScript, RwWriterPlace, MarkedHolds>
-    for RwLockWriterPreference<A> {
+impl<A: Allocator, S> ReadSteps<RwWriterScript, RwWriterPlace, MarkedHolds>
+    for RwLockWriterPreference<A, S> {
     ghost use Rattle.std.specs.Prelude.{[], ◌∷◌};
     ghost use Rattle.std.proofs.Common.{refl};
     ghost use Rattle.model_events.specs.declared.event.Word.TheVariants as words;
@@ -22,12 +21,11 @@ impl<A: Allocator> ReadSteps<RwWriterScript, RwWriterPlace, MarkedHolds>
     ghost use Rattle.running_model.specs.Passes.{parties_of};
     ghost use Rattle.running_model.specs.Turns.{IsOver};
     ghost use Rattle.running_model.specs.Words.{IsNamed};
-    ghost use Rattle.running_tallies.specs.Shown.{object_shown, index_shown};
-    ghost use Rattle.running_tallies.specs.RwWriter.{rw_writer_model, read};
+    ghost use Rattle.running_rw_writer.specs.RwWriter.{rw_writer_model, read};
     ghost use Rattle.running_rw_hold.specs.RwReading.{MayLook, MayEnter, HasLookedAt, HasTriedToEnter};
     ghost use Rattle.model_rw_writer.specs.declared.RwWriterPlace.TheVariants as places;
     ghost use Rattle.running_model.specs.Stages.{id_of};
-    ghost use Rattle.running_tallies.specs.Held.{read_holds, write_holds};
+    ghost use Rattle.running_rw_hold.specs.Held.{read_holds, write_holds};
     ghost use Rattle.running_rw_writer.specs.RwWriterSteps.{IsOnly, word_of as held_word};
     ghost use Rattle.running_rw_writer.specs.RwWriterShown.{IsOpen, IsShut, EntersToRead};
 
@@ -102,62 +100,61 @@ impl<A: Allocator> ReadSteps<RwWriterScript, RwWriterPlace, MarkedHolds>
     {
         turn.end(&self.stage)
     }
-
-    #[inline(always)]
-    fn word(&self) -> Sealed<WaitWord<'_>>
-        ensures object { object_shown result.shown ≡ id_of self.now.stage }
-        ensures index { Patience → IsNamed (words.State ∷ words.Counter ∷ []) (index_shown result.shown) words.State }
-    {
-        self.stage.shown(LOCK)
-    }
 }
 
-impl<A: Allocator> RwLockWriterPreference<A> {
+impl<A: Allocator, S> RwLockWriterPreference<A, S> {
     ghost use Rattle.std.specs.Prelude.{true};
     ghost use Rattle.model_events.specs.declared.hold.HoldKind.TheVariants as kinds;
-    ghost use Rattle.running_passes.specs.Answers.{HasWoken};
     ghost use Rattle.running_passes.specs.Passes.{sights_of};
     ghost use Rattle.running_model.specs.Passes.{parties_of};
     ghost use Rattle.running_model.specs.Stages.{IsPassOf};
     ghost use Rattle.running_rw_writer.specs.RwWriterParties.{has_hold, Unlocks, unlocked};
-    ghost use Rattle.running_rw_writer.specs.RwWriterShown.{IsRwWriterPass, pass_in, sights_in, reads_of, HasLeftReading};
+    ghost use Rattle.running_rw_writer.specs.RwWriterShown.{IsRwWriterPass, IsItsWord, HasWokenOne, pass_in, sights_in, reads_of, HasLeftReading};
 
     /// What `unlock` does with a read hold.
     #[inline(always)]
-    pub(crate) fn unlock_read<'p, W: Fn(&WaitWord)>(
+    pub(crate) fn unlock_read<'p, X: Shown, W: Fn(&X)>(
         &self,
         pass: &'p mut RwWriterPass,
+        counter: &Sealed<X>,
         wake_one: W,
     ) -> &'p mut RwWriterPass
         requires own { IsRwWriterPass self.now pass.old }
+        requires counter { IsItsWord 1 self.now (X.object counter.now.shown) (X.index counter.now.shown) }
         requires on { 0 < reads_of (pass_in pass.old) }
         requires has { has_hold kinds.Read (parties_of (pass_in pass.old)) ≡ true }
         requires may { W.IsAlwaysCallable wake_one }
         ensures same_borrow { result.ghost_name ≡ pass.entry.ghost_name }
         ensures released { HasLeftReading (pass_in pass.old) (pass_in result.now) }
         ensures played { Unlocks kinds.Read (unlocked kinds.Read (sights_in result.now).last) (parties_of (pass_in pass.old)) (parties_of (pass_in result.now)) }
-        ensures woke { (sights_in result.now).last ≡ 3 → HasWoken W.Fn wake_one }
+        ensures woke { (sights_in result.now).last ≡ 3 → HasWokenOne W.Fn X.object X.index self.now wake_one }
     {
-        self.stop_reading(&mut pass.pass, &wake_one);
+        self.stop_reading(&mut pass.pass, counter, &wake_one);
         pass
     }
 
     /// What it does with the pass inside.
     #[inline(always)]
-    fn stop_reading<W: Fn(&WaitWord)>(&self, pass: &mut PlayedPass, wake_one: &W)
+    fn stop_reading<X: Shown, W: Fn(&X)>(
+        &self,
+        pass: &mut PlayedPass,
+        counter: &Sealed<X>,
+        wake_one: &W,
+    )
         requires own { IsPassOf self.now.stage pass.old }
+        requires counter { IsItsWord 1 self.now (X.object counter.now.shown) (X.index counter.now.shown) }
         requires on { 0 < reads_of pass.old }
         requires has { has_hold kinds.Read (parties_of pass.old) ≡ true }
         requires may { W.IsAlwaysCallable wake_one.now }
         ensures released { HasLeftReading pass.old pass.new }
         ensures played { Unlocks kinds.Read (unlocked kinds.Read (sights_of pass.new).last) (parties_of pass.old) (parties_of pass.new) }
-        ensures woke { (sights_of pass.new).last ≡ 3 → HasWoken W.Fn wake_one.now }
+        ensures woke { (sights_of pass.new).last ≡ 3 → HasWokenOne W.Fn X.object X.index self.now wake_one.now }
     {
         let begun = begin_held::<UnlockCall, PlayedPass>(pass);
         let (found, left) = self.leave_reading(begun);
         if is_last_reader(found) {
             let counted = self.count_up(left);
-            let _pass = self.wake_one(counted, wake_one);
+            let _pass = self.wake_one(counted, counter, wake_one);
             return;
         }
         let _pass = left.end(&self.stage);

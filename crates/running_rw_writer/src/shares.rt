@@ -5,14 +5,14 @@ use crate::{RwLockWriterPreference, RwWriterPass};
 use running_sharing::Shares;
 use std::alloc::Allocator;
 
-impl<A: Allocator> Shares<RwLockWriterPreference<A>> for RwWriterPass {
+impl<A: Allocator, S> Shares<RwLockWriterPreference<A, S>> for RwWriterPass {
     ghost use Rattle.running_rw_writer.specs.RwWriterShown.{IsRwWriterPass, part_in, pass_in, reads_of, writes_of};
 
     ghost idle = { λ lock p. IsRwWriterPass lock p × (reads_of (pass_in p) ≡ 0) × (writes_of (pass_in p) ≡ 0) };
 
     ghost part = { part_in };
 
-    fn cut(self, of: &RwLockWriterPreference<A>) -> (RwWriterPass, RwWriterPass) {
+    fn cut(self, of: &RwLockWriterPreference<A, S>) -> (RwWriterPass, RwWriterPass) {
         let Ok(parts) = self.split(of) else {
             unreachable!()
         };
@@ -22,7 +22,7 @@ impl<A: Allocator> Shares<RwLockWriterPreference<A>> for RwWriterPass {
     fn mend(
         one: RwWriterPass,
         other: RwWriterPass,
-        of: &RwLockWriterPreference<A>,
+        of: &RwLockWriterPreference<A, S>,
     ) -> RwWriterPass {
         let Ok(pass) = RwWriterPass::join(one, other, of) else {
             unreachable!()

@@ -1,21 +1,19 @@
 //! Each atomic step of a writer-preferring lock, and the calls of its wake closures.
 ghost use Rattle.std.specs.Prelude.{◌≡◌, ◌-◌, ◌^◌};
 
-use crate::{COUNTER, LOCK, RwLockWriterPreference};
+use crate::{COUNTER, LOCK, PlayedRwWriter, RwLockWriterPreference, RwWriterWord};
 use model_rw_writer::writer_enters;
-use running_model::Sealed;
 use running_model::calls::UnlockCall;
 use running_model::turn::{Continues, Goes, Turn, Way};
+use running_model::{OfWord, Sealed, Shown};
 use running_passes::Pass;
-use running_tallies::{PlayedRwWriter, WaitWord};
 use std::alloc::Allocator;
 
 /// The pass inside.
 pub(crate) type PlayedPass = Pass<PlayedRwWriter>;
 
-impl<A: Allocator> RwLockWriterPreference<A> {
+impl<A: Allocator, S> RwLockWriterPreference<A, S> {
     ghost use Rattle.std.specs.Prelude.{◌≢◌, ◌%◌, ◌+◌, ◌<◌, IfOk, IfErr, true, List, Some, ℕ};
-    ghost use Rattle.running_passes.specs.Answers.{HasWoken};
     ghost use Rattle.model_events.specs.declared.event.Call.{Call};
     ghost use Rattle.model_events.specs.declared.event.Call.TheVariants as calls;
     ghost use Rattle.model_events.specs.declared.hold.HoldKind.TheVariants as kinds;
@@ -29,11 +27,10 @@ impl<A: Allocator> RwLockWriterPreference<A> {
     ghost use Rattle.running_passes.specs.Passes.{sights_of, IsSamePass};
     ghost use Rattle.running_model.specs.Slots.{Slot};
     ghost use Rattle.running_model.specs.Passes.{parties_of, counted};
-    ghost use Rattle.running_model.specs.Stages.{IsPassOf, id_of};
-    ghost use Rattle.running_tallies.specs.Shown.{object_shown, index_shown};
+    ghost use Rattle.running_model.specs.Stages.{IsPassOf};
     ghost use Rattle.running_rw_writer.specs.RwWriterParties.{has_hold, TableHas, TableLed, SomeCallGoes, GoesFromTo, WriteGoes, ComesToWrite, IsToWakeBoth, Unlocks};
     ghost use Rattle.running_rw_writer.specs.RwWriterSteps.{IsMarked, SaysAlone, WriterIn, Unchanged};
-    ghost use Rattle.running_rw_writer.specs.RwWriterShown.{reads_of, writes_of, HasTried, HasJustSeen, HasMissedIt, MayGiveUp, HasGivenUpWriting, HasLeftReading, HasLeftWriting};
+    ghost use Rattle.running_rw_writer.specs.RwWriterShown.{IsItsWord, HasWokenOne, HasWokenBoth, reads_of, writes_of, HasTried, HasJustSeen, HasMissedIt, MayGiveUp, HasGivenUpWriting, HasLeftReading, HasLeftWriting};
 
     /// A subtraction of 2, by a pass that has a read hold, and the value that it found.
     #[inline(always)]
@@ -211,58 +208,62 @@ impl<A: Allocator> RwLockWriterPreference<A> {
 
     /// Calls the closure that wakes one writer, with the counter, with which the call is over. Gives the pass back.
     #[inline(always)]
-    pub(crate) fn wake_one<'p, W: Fn(&WaitWord)>(
+    pub(crate) fn wake_one<'p, X: Shown, W: Fn(&X)>(
         &self,
         turn: Turn<'p, PlayedPass, Goes>,
+        counter: &Sealed<X>,
         wake_one: &W,
     ) -> &'p mut PlayedPass
         requires own { IsPassOf self.now.stage turn.pass.now }
+        requires counter { IsItsWord 1 self.now (X.object counter.now.shown) (X.index counter.now.shown) }
         requires wakes { SomeCallGoes (afters.At (places.WakeOne leavers.Reader)) (parties_of turn.pass.now) }
         requires may { W.IsAlwaysCallable wake_one.now }
         ensures same_borrow { result.ghost_name ≡ turn.entry.pass.ghost_name }
         ensures still { result.now ≡ turn.entry.pass.now }
-        ensures woke { HasWoken W.Fn wake_one.now }
+        ensures woke { HasWokenOne W.Fn X.object X.index self.now wake_one.now }
     {
-        let woken = turn.wake(&self.stage, &self.counter(), wake_one);
+        let (woken, _wake_one) = turn.wake(&self.stage, counter, wake_one);
         woken.end_aside(&self.stage)
     }
 
     /// Calls the closure that wakes one writer, with the counter, and then the one that wakes all readers, with the lock's word, with
     /// which the call is over. Gives the pass back.
     #[inline(always)]
-    pub(crate) fn wake_both<'p, W: Fn(&WaitWord), V: Fn(&WaitWord)>(
+    pub(crate) fn wake_both<'p, X: Shown, W: Fn(&X), V: Fn(&X)>(
         &self,
         turn: Turn<'p, PlayedPass, Goes>,
+        counter: &Sealed<X>,
+        word: &Sealed<X>,
         wake_one: &W,
         wake_all: &V,
     ) -> &'p mut PlayedPass
         requires own { IsPassOf self.now.stage turn.pass.now }
+        requires counter { IsItsWord 1 self.now (X.object counter.now.shown) (X.index counter.now.shown) }
+        requires word { IsItsWord 0 self.now (X.object word.now.shown) (X.index word.now.shown) }
         requires wakes { IsToWakeBoth (parties_of turn.pass.now) }
         requires may_one { W.IsAlwaysCallable wake_one.now }
         requires may_all { V.IsAlwaysCallable wake_all.now }
         ensures same_borrow { result.ghost_name ≡ turn.entry.pass.ghost_name }
         ensures still { result.now ≡ turn.entry.pass.now }
-        ensures woke { HasWoken W.Fn wake_one.now × HasWoken V.Fn wake_all.now }
+        ensures woke { HasWokenBoth W.Fn V.Fn X.object X.index self.now wake_one.now wake_all.now }
     {
-        let one = turn.wake(&self.stage, &self.counter(), wake_one);
-        let both = one.wake_again(&self.stage, &self.word(), wake_all);
+        let (one, _wake_one) = turn.wake(&self.stage, counter, wake_one);
+        let (both, _wake_all) = one.wake_again(&self.stage, word, wake_all);
         both.end_after_two(&self.stage)
     }
 
     /// The lock's word, as closures see it.
     #[inline(always)]
-    pub(crate) fn word(&self) -> Sealed<WaitWord<'_>>
-        ensures object { object_shown result.shown ≡ id_of self.now.stage }
-        ensures index { index_shown result.shown ≡ 0 }
+    pub(crate) fn word<'t, X: OfWord<RwWriterWord<'t>>>(&'t self) -> Sealed<X>
+        ensures its { IsItsWord 0 self.now (X.Shown.object result.shown) (X.Shown.index result.shown) }
     {
         self.stage.shown(LOCK)
     }
 
     /// The wake counter, as closures see it.
     #[inline(always)]
-    pub(crate) fn counter(&self) -> Sealed<WaitWord<'_>>
-        ensures object { object_shown result.shown ≡ id_of self.now.stage }
-        ensures index { index_shown result.shown ≡ 1 }
+    pub(crate) fn counter<'t, X: OfWord<RwWriterWord<'t>>>(&'t self) -> Sealed<X>
+        ensures its { IsItsWord 1 self.now (X.Shown.object result.shown) (X.Shown.index result.shown) }
     {
         self.stage.shown(COUNTER)
     }

@@ -7,12 +7,12 @@ use model_events::{SPIN_REPETITIONS, WaitAction};
 use model_rw_writer::{is_blocked, marks, unmarks, writer_enters};
 use running_model::calls::{TryWriteCall, UnlockCall, WriteCall};
 use running_model::turn::{Aborted, Answered, Goes, Turn, Way, begin_held, begin_new};
-use running_tallies::WaitWord;
+use running_model::{Sealed, Shown};
 use std::alloc::Allocator;
 use std::hint::spin_loop;
 use std::sync::Wait;
 
-impl<A: Allocator> RwLockWriterPreference<A> {
+impl<A: Allocator, S> RwLockWriterPreference<A, S> {
     ghost use Rattle.std.specs.Prelude.{true, false, ◌^◌, ◌<◌, MatchBool, IfOk, IfErr, is_ok, ℕ, List, Some, None};
     ghost use Rattle.model_events.specs.declared.event.Call.TheVariants as calls;
     ghost use Rattle.model_events.specs.declared.event.Answer.TheVariants as answers;
@@ -22,7 +22,7 @@ impl<A: Allocator> RwLockWriterPreference<A> {
     ghost use Rattle.model_rw_writer.specs.declared.Leaver.TheVariants as leavers;
     ghost use Rattle.model_rw_writer.specs.declared.RwWriterPlace.TheVariants as places;
     ghost use Rattle.model_rw_writer.specs.Table.{spins, unmarks_or_leaves, write_look, write_refused};
-    ghost use Rattle.running_passes.specs.Answers.{MayAnswerAbort, HasWoken};
+    ghost use Rattle.running_passes.specs.Answers.{MayAnswerAbort};
     ghost use Rattle.running_passes.specs.Passes.{sights_of, IsSamePass};
     ghost use Rattle.running_model.specs.Plays.{Beginning};
     ghost use Rattle.running_model.specs.Slots.{Slot, all_of};
@@ -31,7 +31,7 @@ impl<A: Allocator> RwLockWriterPreference<A> {
     ghost use Rattle.running_model.specs.Stages.{IsPassOf};
     ghost use Rattle.running_rw_writer.specs.RwWriterParties.{has_hold, TableLed, GoesFromTo, OnceWriting, WriteGoes, WriteIsGranted, WriteGivesUp, ComesToWrite, ComesToGiveUp, Unlocks};
     ghost use Rattle.running_rw_writer.specs.RwWriterSteps.{IsMarked, WriterIn};
-    ghost use Rattle.running_rw_writer.specs.RwWriterShown.{IsRwWriterPass, IsAloneWithin, pass_in, writes_of, flags_of, HasEnteredToWrite, HasEnteredSeenFree, HasWrittenAtOnce, HasSeenTaken, HasTried, HasJustSeen, MayGiveUp, HasGivenUpWriting, HasLeftWriting, HasPlayed, HasPlayedGivingUp};
+    ghost use Rattle.running_rw_writer.specs.RwWriterShown.{IsRwWriterPass, IsItsWord, HasWokenBoth, IsAloneWithin, pass_in, writes_of, flags_of, HasEnteredToWrite, HasEnteredSeenFree, HasWrittenAtOnce, HasSeenTaken, HasTried, HasJustSeen, MayGiveUp, HasGivenUpWriting, HasLeftWriting, HasPlayed, HasPlayedGivingUp};
 
     /// What `try_write_lock` does, and whether the hold is on.
     #[inline(always)]
@@ -65,21 +65,33 @@ impl<A: Allocator> RwLockWriterPreference<A> {
     /// What `write_lock` does, and whether the hold is on.
     #[inline(always)]
     pub(crate) fn wait_to_write<
+        X: Shown,
         R: Wait,
-        W: Fn(&WaitWord, &u64) -> WaitAction,
-        K: Fn(&WaitWord),
-        V: Fn(&WaitWord),
-    >(&self, pass: &mut PlayedPass, rt: &R, wait: &W, wake_one: &K, wake_all: &V) -> bool
+        W: Fn(&X, &u64) -> WaitAction,
+        K: Fn(&X),
+        V: Fn(&X),
+    >(
+        &self,
+        pass: &mut PlayedPass,
+        rt: &R,
+        counter: &Sealed<X>,
+        word: &Sealed<X>,
+        wait: &W,
+        wake_one: &K,
+        wake_all: &V,
+    ) -> bool
         requires own { IsPassOf self.now.stage pass.old }
+        requires counter { IsItsWord 1 self.now (X.object counter.now.shown) (X.index counter.now.shown) }
+        requires word { IsItsWord 0 self.now (X.object word.now.shown) (X.index word.now.shown) }
         requires may { W.IsAlwaysCallable wait.now }
         requires may_one { K.IsAlwaysCallable wake_one.now }
         requires may_all { V.IsAlwaysCallable wake_all.now }
         ensures entered { MatchBool result (HasEnteredSeenFree pass.old pass.new) (HasGivenUpWriting 10003 pass.old pass.new) }
-        ensures played { MatchBool result (HasPlayed calls.WriteLock answers.Success (Some kinds.Write) pass.old pass.new) (HasPlayedGivingUp pass.old pass.new) }
+        ensures played { MatchBool result (HasPlayed calls.WriteLock answers.Success (Some kinds.Write) pass.old pass.new) (HasPlayedGivingUp (HasWokenBoth K.Fn V.Fn X.object X.index self.now wake_one.now wake_all.now) pass.old pass.new) }
         ensures has { result ≡ true → has_hold kinds.Write (parties_of pass.new) ≡ true }
         ensures exact { IsAloneWithin pass.old → result ≡ true }
         ensures aborted { result ≡ false → MayAnswerAbort W.Fn wait.now (λ n. n < 2 ^ 64) }
-        ensures woke { result ≡ false → IsMarked (sights_of pass.new).last → HasWoken K.Fn wake_one.now × HasWoken V.Fn wake_all.now }
+        ensures woke { result ≡ false → IsMarked (sights_of pass.new).last → HasWokenBoth K.Fn V.Fn X.object X.index self.now wake_one.now wake_all.now }
     {
         match self.first_try(pass) {
             Ok(entered) => {
@@ -88,7 +100,7 @@ impl<A: Allocator> RwLockWriterPreference<A> {
             }
             Err((seen, refused)) => {
                 let (entered, _pass) = self.write_later(
-                    refused, rt, seen, wait, wake_one, wake_all,
+                    refused, rt, seen, counter, word, wait, wake_one, wake_all,
                 );
                 entered
             }
@@ -120,22 +132,20 @@ impl<A: Allocator> RwLockWriterPreference<A> {
     }
 
     /// What it does from a value at which it has not entered. Whether it entered; the call is over.
-    fn write_later<
-        'p,
-        R: Wait,
-        W: Fn(&WaitWord, &u64) -> WaitAction,
-        K: Fn(&WaitWord),
-        V: Fn(&WaitWord),
-    >(
+    fn write_later<'p, X: Shown, R: Wait, W: Fn(&X, &u64) -> WaitAction, K: Fn(&X), V: Fn(&X)>(
         &self,
         turn: Turn<'p, PlayedPass, Goes>,
         rt: &R,
         seen: u64,
+        counter: &Sealed<X>,
+        word: &Sealed<X>,
         wait: &W,
         wake_one: &K,
         wake_all: &V,
     ) -> (bool, &'p mut PlayedPass)
         requires own { IsPassOf self.now.stage turn.pass.now }
+        requires counter { IsItsWord 1 self.now (X.object counter.now.shown) (X.index counter.now.shown) }
+        requires word { IsItsWord 0 self.now (X.object word.now.shown) (X.index word.now.shown) }
         requires just { HasJustSeen seen turn.pass.now }
         requires at { (done : List (Slot ℕ)) × WriteGoes (write_refused (spun 0) seen) done (parties_of turn.pass.now) }
         requires may { W.IsAlwaysCallable wait.now }
@@ -143,9 +153,9 @@ impl<A: Allocator> RwLockWriterPreference<A> {
         requires may_all { V.IsAlwaysCallable wake_all.now }
         ensures same_borrow { result.1.ghost_name ≡ turn.entry.pass.ghost_name }
         ensures entered { MatchBool result.0 (HasEnteredSeenFree turn.entry.pass.now result.1.now) (HasGivenUpWriting 10002 turn.entry.pass.now result.1.now) }
-        ensures played { OnceWriting (write_refused (spun 0) seen) (parties_of turn.entry.pass.now) (λ done. MatchBool result.0 (WriteIsGranted done (parties_of result.1.now)) (WriteGivesUp done (parties_of result.1.now))) }
+        ensures played { OnceWriting (write_refused (spun 0) seen) (parties_of turn.entry.pass.now) (λ done. MatchBool result.0 (WriteIsGranted done (parties_of result.1.now)) (WriteGivesUp (HasWokenBoth K.Fn V.Fn X.object X.index self.now wake_one.now wake_all.now) done (parties_of result.1.now))) }
         ensures aborted { result.0 ≡ false → MayAnswerAbort W.Fn wait.now (λ n. n < 2 ^ 64) }
-        ensures woke { result.0 ≡ false → IsMarked (sights_of result.1.now).last → HasWoken K.Fn wake_one.now × HasWoken V.Fn wake_all.now }
+        ensures woke { result.0 ≡ false → IsMarked (sights_of result.1.now).last → HasWokenBoth K.Fn V.Fn X.object X.index self.now wake_one.now wake_all.now }
     {
         let (at_once, marked) = self.mark_or_enter(turn, rt, seen);
         if at_once {
@@ -155,7 +165,7 @@ impl<A: Allocator> RwLockWriterPreference<A> {
         if in_time {
             return (true, spun.end(&self.stage));
         }
-        self.ask_to_write(spun, rt, wait, wake_one, wake_all)
+        self.ask_to_write(spun, rt, counter, word, wait, wake_one, wake_all)
     }
 
     /// Looks, and enters where nobody holds the lock; else sees to it that no reader enters. Whether it entered.
@@ -284,41 +294,41 @@ impl<A: Allocator> RwLockWriterPreference<A> {
 
     /// Loads the counter and looks; where the lock is blocked it calls the wait closure, with the counter, before it tries to enter again.
     /// After `Abort` it tries once more, or gives up. Whether it entered; the call is over.
-    fn ask_to_write<
-        'p,
-        R: Wait,
-        W: Fn(&WaitWord, &u64) -> WaitAction,
-        K: Fn(&WaitWord),
-        V: Fn(&WaitWord),
-    >(
+    fn ask_to_write<'p, X: Shown, R: Wait, W: Fn(&X, &u64) -> WaitAction, K: Fn(&X), V: Fn(&X)>(
         &self,
         turn: Turn<'p, PlayedPass, Goes>,
         rt: &R,
+        counter: &Sealed<X>,
+        word: &Sealed<X>,
         wait: &W,
         wake_one: &K,
         wake_all: &V,
     ) -> (bool, &'p mut PlayedPass)
         requires own { IsPassOf self.now.stage turn.pass.now }
+        requires counter { IsItsWord 1 self.now (X.object counter.now.shown) (X.index counter.now.shown) }
+        requires word { IsItsWord 0 self.now (X.object word.now.shown) (X.index word.now.shown) }
         requires at { (done : List (Slot ℕ)) × WriteGoes (afters.At (places.LoadCounter (spun 10000))) done (parties_of turn.pass.now) }
         requires may { W.IsAlwaysCallable wait.now }
         requires may_one { K.IsAlwaysCallable wake_one.now }
         requires may_all { V.IsAlwaysCallable wake_all.now }
         ensures same_borrow { result.1.ghost_name ≡ turn.entry.pass.ghost_name }
         ensures entered { MatchBool result.0 (HasEnteredSeenFree turn.entry.pass.now result.1.now) (HasGivenUpWriting 2 turn.entry.pass.now result.1.now) }
-        ensures played { OnceWriting (afters.At (places.LoadCounter (spun 10000))) (parties_of turn.entry.pass.now) (λ done. MatchBool result.0 (WriteIsGranted done (parties_of result.1.now)) (WriteGivesUp done (parties_of result.1.now))) }
+        ensures played { OnceWriting (afters.At (places.LoadCounter (spun 10000))) (parties_of turn.entry.pass.now) (λ done. MatchBool result.0 (WriteIsGranted done (parties_of result.1.now)) (WriteGivesUp (HasWokenBoth K.Fn V.Fn X.object X.index self.now wake_one.now wake_all.now) done (parties_of result.1.now))) }
         ensures aborted { result.0 ≡ false → MayAnswerAbort W.Fn wait.now (λ n. n < 2 ^ 64) }
-        ensures woke { result.0 ≡ false → IsMarked (sights_of result.1.now).last → HasWoken K.Fn wake_one.now × HasWoken V.Fn wake_all.now }
+        ensures woke { result.0 ≡ false → IsMarked (sights_of result.1.now).last → HasWokenBoth K.Fn V.Fn X.object X.index self.now wake_one.now wake_all.now }
     {
         let mut next = turn;
         for _ in rt.forever() {
-            match self.ask_once(next, rt, wait) {
+            match self.ask_once(next, rt, counter, wait) {
                 Ok((entered, last)) => {
                     if entered {
                         return (true, last.end(&self.stage));
                     }
                     next = last;
                 }
-                Err(aborted) => return self.enter_or_give_up(aborted, rt, wake_one, wake_all),
+                Err(aborted) => return self.enter_or_give_up(
+                    aborted, rt, counter, word, wake_one, wake_all,
+                ),
             }
         }
         unreachable!()
@@ -327,13 +337,15 @@ impl<A: Allocator> RwLockWriterPreference<A> {
     /// Loads the counter and looks; where the lock is blocked it calls the wait closure, with the counter. Then it tries to enter: whether
     /// it did. `Err` where the closure has answered `Abort`.
     #[inline(always)]
-    fn ask_once<'p, R: Wait, W: Fn(&WaitWord, &u64) -> WaitAction>(
+    fn ask_once<'p, X: Shown, R: Wait, W: Fn(&X, &u64) -> WaitAction>(
         &self,
         turn: Turn<'p, PlayedPass, Goes>,
         rt: &R,
+        counter: &Sealed<X>,
         wait: &W,
     ) -> Result<(bool, Turn<'p, PlayedPass, Goes>), Turn<'p, PlayedPass, Aborted>>
         requires own { IsPassOf self.now.stage turn.pass.now }
+        requires counter { IsItsWord 1 self.now (X.object counter.now.shown) (X.index counter.now.shown) }
         requires at { (done : List (Slot ℕ)) × WriteGoes (afters.At (places.LoadCounter (spun 10000))) done (parties_of turn.pass.now) }
         requires may { W.IsAlwaysCallable wait.now }
         ensures same_borrow { IfOk result (λ tried. tried.1.pass.ghost_name ≡ turn.entry.pass.ghost_name) }
@@ -346,7 +358,7 @@ impl<A: Allocator> RwLockWriterPreference<A> {
     {
         let (count, seen, looked) = self.look_last(turn);
         if is_blocked(seen) {
-            return match looked.ask(&self.stage, &self.counter(), count, wait) {
+            return match looked.ask(&self.stage, counter, count, wait) {
                 Answered::Continue(continued) => Ok(self.enter_or_mark(continued, rt)),
                 Answered::Abort(aborted) => Err(aborted),
             };
@@ -355,40 +367,51 @@ impl<A: Allocator> RwLockWriterPreference<A> {
     }
 
     /// Looks, and enters where nobody holds the lock; else gives up. Whether it entered; the call is over.
-    fn enter_or_give_up<'p, R: Wait, K: Fn(&WaitWord), V: Fn(&WaitWord)>(
+    fn enter_or_give_up<'p, X: Shown, R: Wait, K: Fn(&X), V: Fn(&X)>(
         &self,
         turn: Turn<'p, PlayedPass, Aborted>,
         rt: &R,
+        counter: &Sealed<X>,
+        word: &Sealed<X>,
         wake_one: &K,
         wake_all: &V,
     ) -> (bool, &'p mut PlayedPass)
         requires own { IsPassOf self.now.stage turn.pass.now }
+        requires counter { IsItsWord 1 self.now (X.object counter.now.shown) (X.index counter.now.shown) }
+        requires word { IsItsWord 0 self.now (X.object word.now.shown) (X.index word.now.shown) }
         requires at { (done : List (Slot ℕ)) × ComesToGiveUp done (parties_of turn.pass.now) }
         requires may_one { K.IsAlwaysCallable wake_one.now }
         requires may_all { V.IsAlwaysCallable wake_all.now }
         ensures same_borrow { result.1.ghost_name ≡ turn.entry.pass.ghost_name }
         ensures entered { MatchBool result.0 (HasEnteredSeenFree turn.entry.pass.now result.1.now) (HasGivenUpWriting 1 turn.entry.pass.now result.1.now) }
-        ensures played { (done : List (Slot ℕ)) → ComesToGiveUp done (parties_of turn.entry.pass.now) → MatchBool result.0 (WriteIsGranted done (parties_of result.1.now)) (WriteGivesUp done (parties_of result.1.now)) }
-        ensures woke { result.0 ≡ false → IsMarked (sights_of result.1.now).last → HasWoken K.Fn wake_one.now × HasWoken V.Fn wake_all.now }
+        ensures played { (done : List (Slot ℕ)) → ComesToGiveUp done (parties_of turn.entry.pass.now) → MatchBool result.0 (WriteIsGranted done (parties_of result.1.now)) (WriteGivesUp (HasWokenBoth K.Fn V.Fn X.object X.index self.now wake_one.now wake_all.now) done (parties_of result.1.now)) }
+        ensures woke { result.0 ≡ false → IsMarked (sights_of result.1.now).last → HasWokenBoth K.Fn V.Fn X.object X.index self.now wake_one.now wake_all.now }
     {
         let (seen, looked) = self.look_to_write(turn);
         match self.enter_if_free(looked, seen) {
             Ok(entered) => (true, entered.end(&self.stage)),
-            Err((last, refused)) => (false, self.give_up(refused, rt, last, wake_one, wake_all)),
+            Err((last, refused)) => (
+                false,
+                self.give_up(refused, rt, last, counter, word, wake_one, wake_all),
+            ),
         }
     }
 
     /// Takes the mark away, counts and wakes one and all; or, where it sees that none is set, leaves. The call is over.
     #[inline(always)]
-    fn give_up<'p, R: Wait, K: Fn(&WaitWord), V: Fn(&WaitWord)>(
+    fn give_up<'p, X: Shown, R: Wait, K: Fn(&X), V: Fn(&X)>(
         &self,
         turn: Turn<'p, PlayedPass, Goes>,
         rt: &R,
         seen: u64,
+        counter: &Sealed<X>,
+        word: &Sealed<X>,
         wake_one: &K,
         wake_all: &V,
     ) -> &'p mut PlayedPass
         requires own { IsPassOf self.now.stage turn.pass.now }
+        requires counter { IsItsWord 1 self.now (X.object counter.now.shown) (X.index counter.now.shown) }
+        requires word { IsItsWord 0 self.now (X.object word.now.shown) (X.index word.now.shown) }
         requires just { HasJustSeen seen turn.pass.now }
         requires cause { MayGiveUp turn.pass.now }
         requires at { (done : List (Slot ℕ)) × WriteGoes (unmarks_or_leaves seen) done (parties_of turn.pass.now) }
@@ -396,13 +419,13 @@ impl<A: Allocator> RwLockWriterPreference<A> {
         requires may_all { V.IsAlwaysCallable wake_all.now }
         ensures same_borrow { result.ghost_name ≡ turn.entry.pass.ghost_name }
         ensures gave_up { HasGivenUpWriting 0 turn.entry.pass.now result.now }
-        ensures played { OnceWriting (unmarks_or_leaves seen) (parties_of turn.entry.pass.now) (λ done. WriteGivesUp done (parties_of result.now)) }
-        ensures woke { IsMarked (sights_of result.now).last → HasWoken K.Fn wake_one.now × HasWoken V.Fn wake_all.now }
+        ensures played { OnceWriting (unmarks_or_leaves seen) (parties_of turn.entry.pass.now) (λ done. WriteGivesUp (HasWokenBoth K.Fn V.Fn X.object X.index self.now wake_one.now wake_all.now) done (parties_of result.now)) }
+        ensures woke { IsMarked (sights_of result.now).last → HasWokenBoth K.Fn V.Fn X.object X.index self.now wake_one.now wake_all.now }
     {
         let (taken, left) = self.take_mark_away(turn, rt, seen);
         if taken {
             let counted = self.count_up(left);
-            return self.wake_both(counted, wake_one, wake_all);
+            return self.wake_both(counted, counter, word, wake_one, wake_all);
         }
         left.end(&self.stage)
     }
@@ -442,13 +465,17 @@ impl<A: Allocator> RwLockWriterPreference<A> {
 
     /// What `unlock` does with a write hold.
     #[inline(always)]
-    pub(crate) fn unlock_write<'p, W: Fn(&WaitWord), V: Fn(&WaitWord)>(
+    pub(crate) fn unlock_write<'p, X: Shown, W: Fn(&X), V: Fn(&X)>(
         &self,
         pass: &'p mut RwWriterPass,
+        counter: &Sealed<X>,
+        word: &Sealed<X>,
         wake_one: W,
         wake_all: V,
     ) -> &'p mut RwWriterPass
         requires own { IsRwWriterPass self.now pass.old }
+        requires counter { IsItsWord 1 self.now (X.object counter.now.shown) (X.index counter.now.shown) }
+        requires word { IsItsWord 0 self.now (X.object word.now.shown) (X.index word.now.shown) }
         requires on { writes_of (pass_in pass.old) ≡ 1 }
         requires has { has_hold kinds.Write (parties_of (pass_in pass.old)) ≡ true }
         requires may_one { W.IsAlwaysCallable wake_one }
@@ -456,32 +483,36 @@ impl<A: Allocator> RwLockWriterPreference<A> {
         ensures same_borrow { result.ghost_name ≡ pass.entry.ghost_name }
         ensures released { HasLeftWriting (pass_in pass.old) (pass_in result.now) }
         ensures played { Unlocks kinds.Write (afters.At (places.WakeOne leavers.Writer)) (parties_of (pass_in pass.old)) (parties_of (pass_in result.now)) }
-        ensures woke { HasWoken W.Fn wake_one × HasWoken V.Fn wake_all }
+        ensures woke { HasWokenBoth W.Fn V.Fn X.object X.index self.now wake_one wake_all }
     {
-        self.stop_writing(&mut pass.pass, &wake_one, &wake_all);
+        self.stop_writing(&mut pass.pass, counter, word, &wake_one, &wake_all);
         pass
     }
 
     /// What it does with the pass inside.
     #[inline(always)]
-    fn stop_writing<W: Fn(&WaitWord), V: Fn(&WaitWord)>(
+    fn stop_writing<X: Shown, W: Fn(&X), V: Fn(&X)>(
         &self,
         pass: &mut PlayedPass,
+        counter: &Sealed<X>,
+        word: &Sealed<X>,
         wake_one: &W,
         wake_all: &V,
     )
         requires own { IsPassOf self.now.stage pass.old }
+        requires counter { IsItsWord 1 self.now (X.object counter.now.shown) (X.index counter.now.shown) }
+        requires word { IsItsWord 0 self.now (X.object word.now.shown) (X.index word.now.shown) }
         requires on { writes_of pass.old ≡ 1 }
         requires has { has_hold kinds.Write (parties_of pass.old) ≡ true }
         requires may_one { W.IsAlwaysCallable wake_one.now }
         requires may_all { V.IsAlwaysCallable wake_all.now }
         ensures released { HasLeftWriting pass.old pass.new }
         ensures played { Unlocks kinds.Write (afters.At (places.WakeOne leavers.Writer)) (parties_of pass.old) (parties_of pass.new) }
-        ensures woke { HasWoken W.Fn wake_one.now × HasWoken V.Fn wake_all.now }
+        ensures woke { HasWokenBoth W.Fn V.Fn X.object X.index self.now wake_one.now wake_all.now }
     {
         let begun = begin_held::<UnlockCall, PlayedPass>(pass);
         let left = self.leave_writing(begun);
         let last = self.count_up(left);
-        let _pass = self.wake_both(last, wake_one, wake_all);
+        let _pass = self.wake_both(last, counter, word, wake_one, wake_all);
     }
 }

@@ -22,6 +22,6 @@ pub use Rattle.running_passes.specs.Views.{looked, wrote, sum_of, IsCounted, mis
 pub use Rattle.running_passes.specs.declared.view.View.{View}
 pub use Rattle.running_passes.specs.declared.wait.WaitResult.{WaitResult}
 pub use Rattle.running_passes.specs.declared.wait.WaitResult.TheVariants.{Success, Interrupted}
-pub use Rattle.running_tallies.specs.Semaphore.{value_of, permits, no_permits, both_permits, ArePermitsOf, permits_after, semaphore_model}
-pub use Rattle.running_tallies.specs.declared.semaphore.Permits.{Permits}
-pub use Rattle.running_tallies.specs.declared.semaphore.SemaphoreScript.{SemaphoreScript}
+pub use Rattle.running_semaphore.specs.Semaphore.{value_of, permits, no_permits, both_permits, ArePermitsOf, permits_after, semaphore_model}
+pub use Rattle.running_semaphore.specs.declared.permits.Permits.{Permits}
+pub use Rattle.running_semaphore.specs.declared.permits.SemaphoreScript.{SemaphoreScript}

@@ -3,7 +3,8 @@ use Rattle.std.specs.Prelude.{◌≡◌, ℕ, Bool, true, MatchBool, ◌+◌, �
 use Rattle.running_semaphore.specs.Names.{Call, Answer, Then, SemaphorePlace, semaphore_model, WaitResult, Success, Interrupted, IsWhole, IsSamePass, part_of, sights_of, looked, wrote, HasLooked, LooksOnceOrMisses, HasSeen, HasOnlySeen, WasRefused, Played, Parties, all_of, HasCalled, IsAt, parties_of, counts_of, counted, HasMoved, Permits, SemaphoreScript, value_of}
 use Rattle.running_passes.specs.declared.part.Part.{Part}
 use Rattle.running_passes.specs.declared.pass.Pass.{Pass}
-use Rattle.running_model.specs.Stages.{IsPassOf, key_of}
+use Rattle.atomic_table.specs.Seated.{TableId}
+use Rattle.running_model.specs.Stages.{IsPassOf, id_of, key_of}
 use Rattle.running_semaphore.specs.declared.Semaphore.{Semaphore}
 use Rattle.running_semaphore.specs.SemaphoreSteps.{took}
 
@@ -11,11 +12,15 @@ use Rattle.running_semaphore.specs.SemaphoreSteps.{took}
 abbrev pub SemPass : Type 0
 SemPass = Pass (Played SemaphoreScript SemaphorePlace ℕ Permits)
 
-abbrev pub IsSemPass : {A : Type 0} → Semaphore A → SemPass → Type 0
+abbrev pub IsSemPass : {A S : Type 0} → Semaphore A S → SemPass → Type 0
 IsSemPass s p = IsPassOf s.stage p
 
+-- this is its word, by its object and which of that object's words it is
+abbrev pub IsItsWord : {A S : Type 0} → Semaphore A S → TableId → ℕ → Type 0
+IsItsWord s object index = (object ≡ id_of s.stage) × (index ≡ 0)
+
 -- the value that the semaphore was made with
-abbrev pub initial_of : {A : Type 0} → Semaphore A → ℕ
+abbrev pub initial_of : {A S : Type 0} → Semaphore A S → ℕ
 initial_of s = key_of s.stage % 2 ^ 64
 
 -- the initial value, if the pass was made with the semaphore, and all that its owner posted

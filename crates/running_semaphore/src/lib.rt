@@ -8,29 +8,31 @@ ghost use Rattle.running_model.specs.Passes.{parties_of};
 ghost use Rattle.running_model.specs.Stages.{count_of};
 ghost use Rattle.running_semaphore.specs.SemaphoreSteps.{PermitsAreOfARun};
 
+mod permits;
 mod shares;
 
 use model_events::WaitAction;
 use model_semaphore::{SemaphorePlace, taken};
+pub use permits::{Permits, PlayedSemaphore, SemaphoreScript};
 use running_model::calls::{TryWaitCall, ValueCall, WaitCall};
 use running_model::turn::{Attempt, Called, Goes, Turn, Way, begin_new, try_again};
-use running_model::{Sealed, Stage};
-use running_passes::{Origin, Pass, WaitResult, success_if};
-use running_tallies::{Permits, PlayedSemaphore, SemaphoreScript, WaitWord};
+use running_model::{OfWord, OwnWords, Sealed, Shown, Shows, Stage};
+use running_passes::{Origin, Pass, WaitResult, Word, success_if};
 use std::alloc::{AllocError, Allocator, Global};
-use std::marker::Brand;
+use std::marker::{Brand, PhantomData};
 use std::ops::Deref;
 use std::sync::Wait;
 
 /// A counting semaphore.
 #[derive(Drop)]
-pub struct Semaphore<A: Allocator = Global> {
+pub struct Semaphore<A: Allocator = Global, S = OwnWords> {
     stage: Stage<u64, SemaphoreScript, SemaphorePlace, u64, Permits, A>,
+    shows: PhantomData<S>,
     ghost one_word: { count_of stage ≡ 1 },
 }
 
 /// What the passes of a semaphore come from, at which they are split and joined.
-impl<A: Allocator> Deref for Semaphore<A> {
+impl<A: Allocator, S> Deref for Semaphore<A, S> {
     ghost use Rattle.running_model.specs.Stages.{origin};
 
     type Target = Origin<u64, PlayedSemaphore, A>;
@@ -43,16 +45,19 @@ impl<A: Allocator> Deref for Semaphore<A> {
     }
 }
 
+/// The word of a semaphore, as wait and wake closures see it. It can be loaded and slept on, and no more.
+pub type SemaphoreWord<'t> = Word<'t, u64, PlayedSemaphore>;
+
 /// The right to call a semaphore, and what its owner did and saw there.
 pub type SemPass = Pass<PlayedSemaphore>;
 
-impl<A: Allocator> Semaphore<A> {
+impl<A: Allocator, S> Semaphore<A, S> {
     ghost use Rattle.std.specs.Prelude.{true, false, ℕ, ◌-◌, ◌≢◌, [], ◌∷◌, List, MatchBool, IfErr};
     ghost use Rattle.model_events.specs.declared.event.Word.TheVariants as words;
     ghost use Rattle.model_events.specs.declared.event.Call.TheVariants as calls;
     ghost use Rattle.model_events.specs.declared.event.Answer.TheVariants as answers;
     ghost use Rattle.model_events.specs.declared.row.Intent.TheVariants as intents;
-    ghost use Rattle.running_tallies.specs.Semaphore.{semaphore_model, first_permits};
+    ghost use Rattle.running_semaphore.specs.Semaphore.{semaphore_model, first_permits};
     ghost use Rattle.running_passes.specs.Answers.{IfSuccess, IfInterrupted, IsSuccess, MayAnswerAbort, HasAsked, HasWoken};
     ghost use Rattle.running_passes.specs.Parts.{IsWhole};
     ghost use Rattle.running_passes.specs.Sights.{LooksOnceOrMisses};
@@ -63,19 +68,19 @@ impl<A: Allocator> Semaphore<A> {
     ghost use Rattle.running_model.specs.Passes.{played};
     ghost use Rattle.running_model.specs.Counts.{HasSeen, HasMissed, HasDone, WasRefused};
     ghost use Rattle.running_model.specs.Stages.{id_of};
-    ghost use Rattle.running_tallies.specs.Shown.{object_shown, index_shown};
     ghost use Rattle.running_semaphore.specs.SemaphoreParties.{Wanting, MayWant, OnceWanting, HasLooked, HasOne, HasWanted};
     ghost use Rattle.running_semaphore.specs.SemaphoreSteps.{took, gave};
-    ghost use Rattle.running_semaphore.specs.SemaphoreShown.{IsSemPass, initial_of, given_of, taken_of, worth_of, IsEmpty, SawLast, TookOne, SawNone, TookOrSawNone, HasTaken, HasTakenAtOnce, HasCounted, answer_of, HasPlayed, HasPlayedPost, HasPlayedBoth};
+    ghost use Rattle.running_semaphore.specs.SemaphoreShown.{IsSemPass, IsItsWord, initial_of, given_of, taken_of, worth_of, IsEmpty, SawLast, TookOne, SawNone, TookOrSawNone, HasTaken, HasTakenAtOnce, HasCounted, answer_of, HasPlayed, HasPlayedPost, HasPlayedBoth};
 
     /// A semaphore of this value, and the pass that is whole. `Err` where there was no memory; then nothing was made.
-    pub fn new(alloc: A, initial: u64) -> Result<(Semaphore<A>, SemPass), AllocError>
+    pub fn new(alloc: A, initial: u64) -> Result<(Semaphore<A, S>, SemPass), AllocError>
         ensures own { IfOk result (λ made. IsSemPass made.0 made.1) }
         ensures initial { IfOk result (λ made. initial_of made.0 ≡ initial) }
         ensures first { IfOk result (λ made. view made.1 ≡ first_view (played no_parties (first_permits initial))) }
     {
         let (stage, pass) = Stage::new(alloc, &[initial], &initial)?;
-        Ok((Semaphore { stage }, pass))
+        let shows = PhantomData;
+        Ok((Semaphore { stage, shows }, pass))
     }
 
     /// How many permits are there to take. Another party may post or take right after.
@@ -94,7 +99,14 @@ impl<A: Allocator> Semaphore<A> {
 
     /// Adds so many permits, wrapping at 2^64, and then calls the wake closure once, also for 0.
     #[inline(always)]
-    pub fn post<W: Fn(&WaitWord)>(&self, pass: &mut SemPass, wakeup: W, value: u64)
+    pub fn post<'t, W: Fn(&<S as Shows<'t, SemaphoreWord<'t>>>::As)>(
+        &'t self,
+        pass: &mut SemPass,
+        wakeup: W,
+        value: u64,
+    )
+    where
+        S: Shows<'t, SemaphoreWord<'t>>,
         requires own { IsSemPass self.now pass.old }
         requires may { W.IsAlwaysCallable wakeup }
         ensures given { HasDone (gave value) pass.old pass.new }
@@ -102,19 +114,21 @@ impl<A: Allocator> Semaphore<A> {
         ensures woke { HasWoken W.Fn wakeup }
     {
         let turn = self.add::<Brand>(pass, value);
-        let woken = turn.wake(&self.stage, &self.word(), &wakeup);
+        let (woken, _wakeup) = turn.wake(&self.stage, &self.word(), wakeup);
         let _pass = woken.end_aside(&self.stage);
     }
 
     /// Takes a permit: looks, up to 10000 times more where it sees none, and then calls the wait closure before each further look.
     /// `Interrupted` at a look that gave 0 after the closure had answered `Abort`; then nothing was taken.
     #[inline(always)]
-    pub fn wait<R: Wait, W: Fn(&WaitWord, &u64) -> WaitAction>(
-        &self,
+    pub fn wait<'t, R: Wait, W: Fn(&<S as Shows<'t, SemaphoreWord<'t>>>::As, &u64) -> WaitAction>(
+        &'t self,
         rt: &R,
         pass: &mut SemPass,
         wait: W,
     ) -> WaitResult<()>
+    where
+        S: Shows<'t, SemaphoreWord<'t>>,
         requires own { IsSemPass self.now pass.old }
         requires may { W.IsAlwaysCallable wait }
         ensures took { IfSuccess result (λ _. HasTaken pass.old pass.new) }
@@ -125,7 +139,7 @@ impl<A: Allocator> Semaphore<A> {
         ensures aborted { IfInterrupted result (MayAnswerAbort W.Fn wait IsEmpty) }
         ensures asked { IsWhole (part_of pass.old) → IfInterrupted result (HasAsked W.Fn wait IsEmpty 10001 pass.old pass.new) }
     {
-        success_if(self.enter(rt, pass, &wait))
+        success_if(self.enter(rt, pass, &self.word(), &wait))
     }
 
     /// Takes a permit where there is one, and tries again where another party's write came between its look and its exchange.
@@ -148,12 +162,15 @@ impl<A: Allocator> Semaphore<A> {
     /// Takes a permit as `wait` does, calls `act`, and posts the permit again. `Interrupted` where `wait` is; then `act` was not called.
     #[inline(always)]
     pub fn with_permit<
+        't,
         T,
         R: Wait,
-        W: Fn(&WaitWord, &u64) -> WaitAction,
-        K: Fn(&WaitWord),
+        W: Fn(&<S as Shows<'t, SemaphoreWord<'t>>>::As, &u64) -> WaitAction,
+        K: Fn(&<S as Shows<'t, SemaphoreWord<'t>>>::As),
         F: FnOnce() -> T,
-    >(&self, rt: &R, pass: &mut SemPass, wait: W, wakeup: K, act: F) -> WaitResult<T>
+    >(&'t self, rt: &R, pass: &mut SemPass, wait: W, wakeup: K, act: F) -> WaitResult<T>
+    where
+        S: Shows<'t, SemaphoreWord<'t>>,
         requires own { IsSemPass self.now pass.old }
         requires may { W.IsAlwaysCallable wait × K.IsAlwaysCallable wakeup × F.IsAlwaysCallable act }
         ensures lent { IfSuccess result (λ _. HasCounted 1 1 pass.old pass.new) }
@@ -184,19 +201,22 @@ impl<A: Allocator> Semaphore<A> {
         ensures exact { IsWhole (part_of pass) → result ≡ worth_of pass }
         ensures enough { IsWhole (part_of pass) → taken_of pass ≤ given_of pass }
     {
-        let Semaphore { stage } = self;
+        let Semaphore { stage, shows: _ } = self;
         stage.close(pass, 0)
     }
 
-    /// What `wait` does, and whether a permit was taken.
+    /// What `wait` does, by the word as its closure sees it, and whether a permit was taken. It serves a call that waits for a permit as
+    /// a part of its own.
     #[inline(always)]
-    fn enter<R: Wait, W: Fn(&WaitWord, &u64) -> WaitAction>(
+    pub fn enter<X: Shown, R: Wait, W: Fn(&X, &u64) -> WaitAction>(
         &self,
         rt: &R,
         pass: &mut SemPass,
+        word: &Sealed<X>,
         wait: &W,
     ) -> bool
         requires own { IsSemPass self.now pass.old }
+        requires its { IsItsWord self.now (X.object word.now.shown) (X.index word.now.shown) }
         requires may { W.IsAlwaysCallable wait.now }
         ensures entered { MatchBool result (HasTaken pass.old pass.new) (WasRefused IsEmpty 10002 pass.old pass.new) }
         ensures played { MatchBool result (HasPlayed (initial_of self.now) calls.Wait answers.Success pass.old pass.new) (HasPlayed (initial_of self.now) calls.Wait answers.Interrupted pass.old pass.new) }
@@ -215,7 +235,7 @@ impl<A: Allocator> Semaphore<A> {
                     let _pass = after.end(&self.stage);
                     return true;
                 }
-                let (granted, last) = try_again(rt, after, self, &self.word(), 0, wait);
+                let (granted, last) = try_again(rt, after, self, word, 0, wait);
                 let _pass = last.end(&self.stage);
                 granted
             }
@@ -368,16 +388,16 @@ impl<A: Allocator> Semaphore<A> {
 
     /// The semaphore's word, as closures see it.
     #[inline(always)]
-    fn word(&self) -> Sealed<WaitWord<'_>>
-        ensures object { object_shown result.shown ≡ id_of self.now.stage }
-        ensures index { index_shown result.shown ≡ 0 }
+    pub fn word<'t, X: OfWord<SemaphoreWord<'t>>>(&'t self) -> Sealed<X>
+        ensures its { IsItsWord self.now (X.Shown.object result.shown) (X.Shown.index result.shown) }
     {
         self.stage.shown(0)
     }
 }
 
 /// A look of `wait`, and its exchanges.
-impl<A: Allocator> Attempt<u64, SemaphoreScript, SemaphorePlace, u64, Permits> for Semaphore<A> {
+impl<A: Allocator, S> Attempt<u64, SemaphoreScript, SemaphorePlace, u64, Permits>
+    for Semaphore<A, S> {
     ghost use Rattle.std.specs.Prelude.{◌+◌, None, IfErr};
     ghost use Rattle.std.proofs.Common.{refl};
     ghost use Rattle.model_events.specs.declared.event.Call.TheVariants as calls;
@@ -387,7 +407,7 @@ impl<A: Allocator> Attempt<u64, SemaphoreScript, SemaphorePlace, u64, Permits> f
     ghost use Rattle.running_model.specs.Counts.{HasMoved, WasRefusedAt};
     ghost use Rattle.running_model.specs.Tries.{MayTry, Tried, IsGranted, IsRefused};
     ghost use Rattle.running_model.specs.Stages.{id_of, key_of};
-    ghost use Rattle.running_tallies.specs.Semaphore.{semaphore_model};
+    ghost use Rattle.running_semaphore.specs.Semaphore.{semaphore_model};
     ghost use Rattle.running_semaphore.specs.SemaphoreShown.{IsEmpty, Takes, initial_of};
 
     ghost object = { λ s. id_of s.stage };

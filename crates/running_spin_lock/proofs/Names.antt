@@ -23,5 +23,5 @@ pub use Rattle.running_passes.proofs.Sums.{others, sum_at, sum_of_two, alone}
 pub use Rattle.running_model.proofs.OfARun.{of_a_run}
 pub use Rattle.running_model.proofs.Steps.{zero_or_not}
 pub use Rattle.running_model.proofs.Words.{hold_at}
-pub use Rattle.running_tallies.specs.Mutex.{holds_add_up, no_holds_first, word_is_held}
+pub use Rattle.running_for_one.specs.ForOne.{holds_add_up, no_holds_first, word_is_held}
 pub use Rattle.running_spin_lock.specs.ValueRule.{none_held, both_held, core_held, LiesByHolds, CarriesByHolds, ValueAgrees, OneHolder}

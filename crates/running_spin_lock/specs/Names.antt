@@ -25,8 +25,8 @@ pub use Rattle.model_events.specs.declared.row.Intent.{Intent}
 pub use Rattle.model_spin.specs.Law.{KeepsSpin}
 pub use Rattle.model_spin.specs.Table.{spin_table}
 pub use Rattle.model_spin.specs.declared.SpinPlace.{SpinPlace}
-pub use Rattle.running_tallies.specs.Mutex.{no_holds, both_holds, granted, released, holds_after, AreHoldsIn, IsForOne}
-pub use Rattle.running_tallies.specs.declared.mutex.Holds.{Holds}
+pub use Rattle.running_for_one.specs.ForOne.{no_holds, both_holds, granted, released, holds_after, AreHoldsIn, IsForOne}
+pub use Rattle.running_for_one.specs.declared.Holds.{Holds}
 pub use lib.ListN.{get_elem?}
 pub use Rattle.model_events.specs.Integers.{u64_arithmetic}
 pub use Rattle.model_spin.proofs.Laws.{keeps_spin, spin_is_lock}

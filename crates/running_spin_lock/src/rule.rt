@@ -1,11 +1,11 @@
 //! The rule over all passes of a lock that guards a value.
 ghost use Rattle.running_model.specs.Sees.{sights_after};
-ghost use Rattle.running_tallies.specs.Mutex.{AreHoldsIn, holds_after, holds_needed, holds_go_on, holds_stay};
+ghost use Rattle.running_for_one.specs.ForOne.{AreHoldsIn, holds_after, holds_needed, holds_go_on, holds_stay};
 ghost use Rattle.running_spin_lock.specs.ValueRule.{LiesByHolds, CarriesByHolds};
 ghost use Rattle.running_spin_lock.specs.ValueMoves.{value_moves};
 
+use running_for_one::{ForOne, Holds};
 use running_model::{Carries, CarryRule};
-use running_tallies::{ForOne, Holds};
 
 /// The value of a lock with one holder at most: it is with the pass that has the hold, and in its slot where nobody has one.
 pub struct HeldValue;

@@ -1,8 +1,8 @@
 //! The model that a spin lock plays, and what its pass counts beside.
 
 use model_spin::SpinPlace;
+use running_for_one::{ForOne, Holds};
 use running_model::{Played, Script};
-use running_tallies::{ForOne, Holds};
 
 /// The model that a spin lock plays: its one word is the lock's.
 pub struct SpinScript;

@@ -8,11 +8,11 @@ ghost use Rattle.running_spin_lock.specs.ValueSteps.{HasValue, Lets, has_vacant_
 
 use crate::rule::ValueRule;
 use atomic_table::{Refused, Seat, Shared, Table};
+use running_for_one::{ForOne, Holds};
 use running_model::Played;
 use running_model::seat::{SeatTurn, begin_held};
 use running_model::turn::{Called, Goes};
 use running_passes::View;
-use running_tallies::{ForOne, Holds};
 use std::alloc::{AllocError, Allocator};
 
 /// The word where it is locked, and where it is free.

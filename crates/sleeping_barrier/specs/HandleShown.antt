@@ -7,6 +7,7 @@ use Rattle.running_barrier.specs.BarrierShown.{BarrierPass}
 use Rattle.running_passes.specs.declared.part.Part.{Part}
 use Rattle.running_passes.specs.Passes.{part_of}
 use Rattle.running_barrier.specs.declared.Barrier.{Barrier}
+use Rattle.running_model.specs.declared.wait.OwnWords.{OwnWords}
 use Rattle.sleeping_barrier.specs.declared.SleepingBarrier.{SleepingBarrier}
 use Rattle.sleeping_barrier.specs.declared.BarrierHandle.{BarrierHandle}
 
@@ -25,7 +26,7 @@ pub record HasSeenFull (waiters : ℕ) (p q : BarrierPass) : Type 0 where
 
 module _ {A : Type 0} where
   -- the barrier itself, whose pass is the object's
-  abbrev pub below : SleepingBarrier A → Barrier A
+  abbrev pub below : SleepingBarrier A → Barrier A OwnWords
   below o = o.barrier
 
   abbrev pub IsSleepingPass : SleepingBarrier A → BarrierPass → Type 0

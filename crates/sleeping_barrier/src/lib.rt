@@ -30,7 +30,7 @@ impl<A: Allocator> SleepingBarrier<A> {
     ghost use Rattle.running_passes.specs.Views.{first_view};
     ghost use Rattle.running_model.specs.Slots.{no_parties};
     ghost use Rattle.running_model.specs.Passes.{played};
-    ghost use Rattle.running_tallies.specs.Barrier.{no_rounds};
+    ghost use Rattle.running_barrier.specs.Barrier.{no_rounds};
     ghost use Rattle.sleeping_barrier.specs.HandleShown.{IsSleepingPass, below, waiters_of, object_of, pass_of};
 
     /// A barrier for so many, at which nobody sleeps, and the pass that is whole. `Err` where there was no memory; then nothing was made.
@@ -67,7 +67,7 @@ impl<A: Allocator> SleepingBarrier<A> {
 }
 
 impl<'b, A: Allocator> BarrierHandle<'b, A> {
-    ghost use Rattle.std.specs.Prelude.{◌≡◌, ◌<◌, true, is_ok, vec_len, IfOk, IfErr};
+    ghost use Rattle.std.specs.Prelude.{◌≡◌, ◌<◌, true, is_ok, IfOk, IfErr};
     ghost use Rattle.sleeping_barrier.specs.HandleShown.{IsSleepingPass, waiters_of, object_of, pass_of, PassHas, HasPassed, HasSeenFull};
 
     /// Arrives, and sleeps until as many have arrived as the barrier is for. `BarrierFull` where it is for 0.

@@ -12,7 +12,7 @@ use Rattle.running_guarded.specs.GuardedShown as passes
 use Rattle.running_passes.specs.declared.part.Part.{Part}
 use Rattle.running_passes.specs.Views.{left_view, right_view, joined_view}
 use Rattle.running_model.specs.Passes.{core_played}
-use Rattle.running_tallies.specs.Mutex.{no_holds}
+use Rattle.running_for_one.specs.ForOne.{no_holds}
 use Rattle.running_spin_lock.specs.ValueRule.{both_held}
 use Rattle.running_guarded.specs.declared.guarded.Guarded.{Guarded}
 use Rattle.sleeping_guarded.specs.declared.SleepingGuarded.{SleepingGuarded}

@@ -4,11 +4,11 @@ ghost use Rattle.running_mutex.specs.MutexParties.{HasMutex};
 ghost use Rattle.running_spin_lock.specs.ValueSteps.{has_vacant_slot};
 ghost use Rattle.running_guarded.specs.GuardedShown.{id_of};
 
-use crate::{GuardedHandle, SleepingGuarded};
+use crate::GuardedHandle;
 use atomic_table::Seat;
 use running_guarded::Guarded;
+use running_mutex::PlayedMutex;
 use running_passes::{View, WaitResult};
-use running_tallies::PlayedMutex;
 use std::alloc::{Allocator, Global};
 use std::ops::{Deref, DerefMut};
 use std::sync::Wait;

@@ -6,6 +6,7 @@ use Rattle.model_events.specs.declared.event.Call.TheVariants as calls
 use Rattle.model_events.specs.declared.event.Answer.TheVariants as answers
 use Rattle.model_events.specs.declared.hold.HoldKind.TheVariants as kinds
 use Rattle.running_model.specs.Counts.{WasRefused}
+use Rattle.running_model.specs.declared.wait.OwnWords.{OwnWords}
 use Rattle.running_mutex.specs.MutexShown.{IsLocked, IsMutexPass, HasLocked, HasUnlocked, HasPlayedUnlock, MutexPass, HasEntered, HasSeenLocked as HasPassSeenLocked, HasPlayed}
 use Rattle.running_mutex.specs.declared.MutexHold.{MutexHold}
 use Rattle.running_passes.specs.declared.part.Part.{Part}
@@ -57,7 +58,7 @@ pub record HasSeenLocked (p q : MutexPass) : Type 0 where
 
 module _ {A : Type 0} where
   -- the lock itself, whose pass is the object's
-  abbrev pub below : SleepingMutex A → Mutex A
+  abbrev pub below : SleepingMutex A → Mutex A OwnWords
   below o = o.mutex
 
   abbrev pub IsSleepingPass : SleepingMutex A → MutexPass → Type 0

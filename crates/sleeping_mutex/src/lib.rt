@@ -41,7 +41,7 @@ impl<A: Allocator> SleepingMutex<A> {
     ghost use Rattle.running_passes.specs.Views.{first_view};
     ghost use Rattle.running_model.specs.Slots.{no_parties};
     ghost use Rattle.running_model.specs.Passes.{played};
-    ghost use Rattle.running_tallies.specs.Mutex.{no_holds};
+    ghost use Rattle.running_for_one.specs.ForOne.{no_holds};
     ghost use Rattle.sleeping_mutex.specs.HandleShown.{IsSleepingPass, below, object_of, pass_of};
 
     /// A mutex that is free, at which nobody sleeps, and the pass that is whole. `Err` where there was no memory; then nothing was made.

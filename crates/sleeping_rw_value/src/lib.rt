@@ -4,12 +4,22 @@
 //! Readers and writers sleep apart. Since a writer may give up, who wakes a writer wakes them all, so that no wake goes with one that gives up.
 #![tactic(auto)]
 
+ghost use Rattle.std.specs.Prelude.{◌≡◌, ◌<◌, true};
+ghost use Rattle.model_events.specs.declared.hold.HoldKind.TheVariants as kinds;
+ghost use Rattle.running_model.specs.Passes.{parties_of};
+ghost use Rattle.running_rw_writer.specs.RwWriterParties.{has_hold};
+ghost use Rattle.running_rw_writer.specs.RwWriterShown.{pass_in, reads_of, writes_of};
 ghost use Rattle.running_rw_value.specs.RwValueShown.{IsRwValuePass};
+ghost use Rattle.sleeping_rw_value.specs.declared.Held.TheVariants as held_as;
 
+mod locked;
+
+pub use crate::locked::{Reading, Writing};
 use running_closures::Sleepers;
 use running_passes::WaitResult;
 use running_rw_value::RwLock;
 use running_rw_writer::RwWriterPass;
+pub use running_sharing::Handle;
 use std::alloc::{AllocError, Allocator, Global};
 use std::sync::Wait;
 use std::time::{Clock, Instant};
@@ -27,15 +37,28 @@ pub struct SleepingRwValue<T, A: Allocator = Global> {
 pub struct RwValueHandle<'v, T, A: Allocator = Global> {
     of: &'v SleepingRwValue<T, A>,
     pass: RwWriterPass,
+    held: Held,
     ghost own: { IsRwValuePass of.now.value pass },
+    ghost reads: { held ≡ held_as.Reading → 0 < reads_of (pass_in pass) },
+    ghost has_read: { held ≡ held_as.Reading → has_hold kinds.Read (parties_of (pass_in pass)) ≡ true },
+    ghost writes: { held ≡ held_as.Writing → writes_of (pass_in pass) ≡ 1 },
+    ghost has_written: { held ≡ held_as.Writing → has_hold kinds.Write (parties_of (pass_in pass)) ≡ true },
+}
+
+/// Which guard of a handle is out.
+#[derive(Clone, Copy, Drop)]
+enum Held {
+    Nothing,
+    Reading,
+    Writing,
 }
 
 impl<T, A: Allocator> SleepingRwValue<T, A> {
-    ghost use Rattle.std.specs.Prelude.{◌≡◌, IfOk, IfErr, IfSome, IfNone};
+    ghost use Rattle.std.specs.Prelude.{IfOk, IfErr, IfSome, IfNone};
     ghost use Rattle.running_passes.specs.Views.{first_view};
     ghost use Rattle.running_model.specs.Slots.{no_parties};
     ghost use Rattle.running_model.specs.Passes.{played};
-    ghost use Rattle.running_tallies.specs.RwWriter.{nothing_marked};
+    ghost use Rattle.running_rw_writer.specs.RwWriter.{nothing_marked};
     ghost use Rattle.running_rw_writer.specs.RwWriterShown.{known_by};
     ghost use Rattle.running_rw_value.specs.RwValueShown.{Looks, Acts};
     ghost use Rattle.sleeping_rw_value.specs.HandleShown.{IsSleepingPass, below, object_of, pass_of, HasReadAtOnce, HasWrittenAtOnce, WasTurnedAway, HasSeenTaken};
@@ -75,7 +98,12 @@ impl<T, A: Allocator> SleepingRwValue<T, A> {
         ensures object { object_of result ≡ self.now }
         ensures pass { pass_of result ≡ pass }
     {
-        RwValueHandle { of: self, pass }
+        let held = Held::Nothing;
+        RwValueHandle {
+            of: self,
+            pass,
+            held,
+        }
     }
 
     /// Ends the lock, and gives the value. Any pass of it will do, since a handle borrows the lock.
@@ -143,11 +171,9 @@ impl<T, A: Allocator> SleepingRwValue<T, A> {
 }
 
 impl<'v, T, A: Allocator> RwValueHandle<'v, T, A> {
-    ghost use Rattle.running_passes.specs.declared.part.Part.{Part};
-    ghost use Rattle.running_passes.specs.Parts.{half, IsAgain, IsSamePart, AddUp};
-    ghost use Rattle.std.specs.Prelude.{◌≡◌, None, IfSome, IfNone, IsSome, ◌<◌, vec_len, IfOk};
+    ghost use Rattle.std.specs.Prelude.{None, IfSome, IfNone, IsSome, vec_len, IfOk};
     ghost use Rattle.running_rw_value.specs.RwValueShown.{Looks, Acts, HasReadOnce, HasWrittenOnce};
-    ghost use Rattle.sleeping_rw_value.specs.HandleShown.{IsSleepingPass, object_of, pass_of, part_with, PassHas, HasGivenUpReading, HasGivenUpWriting, HasReadAtOnce, HasWrittenAtOnce, WasTurnedAway, HasSeenTaken};
+    ghost use Rattle.sleeping_rw_value.specs.HandleShown.{IsSleepingPass, object_of, pass_of, PassHas, HasGivenUpReading, HasGivenUpWriting, HasReadAtOnce, HasWrittenAtOnce, WasTurnedAway, HasSeenTaken};
 
     /// Locks the value for reading, asleep until a reader may enter, calls `act` with it, unlocks, and wakes.
     #[inline(always)]
@@ -156,6 +182,7 @@ impl<'v, T, A: Allocator> RwValueHandle<'v, T, A> {
         ensures locked { PassHas HasReadOnce self.old self.new }
         ensures acted { Looks F.FnOnce act result }
     {
+        self.held = Held::Nothing;
         let of = self.of;
         let done = of.value.with_read(
             rt,
@@ -184,6 +211,7 @@ impl<'v, T, A: Allocator> RwValueHandle<'v, T, A> {
         ensures gave_up { IfNone result (PassHas HasGivenUpReading self.old self.new) }
         ensures waits { deadline ≡ None → IsSome result }
     {
+        self.held = Held::Nothing;
         let of = self.of;
         let done = of.value.with_read(
             rt,
@@ -206,6 +234,7 @@ impl<'v, T, A: Allocator> RwValueHandle<'v, T, A> {
         ensures acted { IfSome result (λ x. Looks F.FnOnce act x) }
         ensures refused { IfNone result (PassHas WasTurnedAway self.old self.new) }
     {
+        self.held = Held::Nothing;
         self.of.try_look(rt, &mut self.pass, act)
     }
 
@@ -216,6 +245,7 @@ impl<'v, T, A: Allocator> RwValueHandle<'v, T, A> {
         ensures locked { PassHas HasWrittenOnce self.old self.new }
         ensures acted { Acts F.FnOnce act result }
     {
+        self.held = Held::Nothing;
         let of = self.of;
         let done = of.value.with_write(
             rt,
@@ -245,6 +275,7 @@ impl<'v, T, A: Allocator> RwValueHandle<'v, T, A> {
         ensures gave_up { IfNone result (PassHas HasGivenUpWriting self.old self.new) }
         ensures waits { deadline ≡ None → IsSome result }
     {
+        self.held = Held::Nothing;
         let of = self.of;
         let done = of.value.with_write(
             rt,
@@ -272,54 +303,8 @@ impl<'v, T, A: Allocator> RwValueHandle<'v, T, A> {
         ensures acted { IfSome result (λ x. Acts F.FnOnce act x) }
         ensures refused { IfNone result (PassHas HasSeenTaken self.old self.new) }
     {
+        self.held = Held::Nothing;
         self.of.try_act(rt, &mut self.pass, act)
-    }
-
-    /// Two handles of the same value, each with a part of the pass, for a thread more.
-    pub fn split(self) -> (RwValueHandle<'v, T, A>, RwValueHandle<'v, T, A>)
-        ensures object { (object_of result.0 ≡ object_of self.entry) × (object_of result.1 ≡ object_of self.entry) }
-        ensures halves { (part_with result.0 ≡ half (part_with self.entry)) × (part_with result.1 ≡ half (part_with self.entry)) }
-    {
-        let RwValueHandle { of, pass } = self;
-        let Ok((pass, other)) = pass.split(of.value.front()) else {
-            unreachable!()
-        };
-        let other = RwValueHandle { of, pass: other };
-        (RwValueHandle { of, pass }, other)
-    }
-
-    /// So many handles of the same object, for as many threads; one, where none are asked for.
-    pub fn split_into<B: Allocator>(
-        self,
-        alloc: B,
-        many: usize,
-    ) -> Result<Vec<RwValueHandle<'v, T, A>, B>, AllocError>
-        ensures many { IfOk result (λ handles. 0 < many → vec_len handles ≡ many) }
-    {
-        let mut handles = Vec::new(alloc);
-        let mut rest = self;
-        for _ in 1..many {
-            let (handle, other) = rest.split();
-            rest = other;
-            handles.push(handle)?;
-        }
-        handles.push(rest)?;
-        Ok(handles)
-    }
-
-    /// One handle from two of the same value.
-    pub fn join(self, other: RwValueHandle<'v, T, A>) -> RwValueHandle<'v, T, A>
-        requires same { object_of other ≡ object_of self }
-        ensures object { object_of result ≡ object_of self.entry }
-        ensures weights { AddUp (part_with result) (part_with self.entry) (part_with other.entry) }
-        ensures again { (p : Part) → IsSamePart (part_with self.entry) (half p) → IsSamePart (part_with other.entry) (half p) → IsAgain p (part_with result) }
-    {
-        let RwValueHandle { of, pass } = self;
-        let RwValueHandle { of: _, pass: other } = other;
-        let Ok(pass) = RwWriterPass::join(pass, other, of.value.front()) else {
-            unreachable!()
-        };
-        RwValueHandle { of, pass }
     }
 
     /// The pass alone, for who counts.
@@ -328,7 +313,33 @@ impl<'v, T, A: Allocator> RwValueHandle<'v, T, A> {
         ensures own { IsSleepingPass (object_of self.entry) result }
         ensures same { result ≡ pass_of self.entry }
     {
-        let RwValueHandle { of: _, pass } = self;
+        let RwValueHandle { pass, .. } = self;
         pass
+    }
+}
+
+impl<T, A: Allocator> Handle for RwValueHandle<'_, T, A> {
+    ghost use Rattle.std.specs.Prelude.{◌≡◌};
+    ghost use Rattle.sleeping_rw_value.specs.HandleShown.{object_of, part_with};
+
+    ghost same = { λ one other. object_of other ≡ object_of one };
+
+    ghost part = { part_with };
+
+    fn split(self) -> (Self, Self) {
+        let RwValueHandle { of, pass, .. } = self;
+        let Ok((pass, other)) = pass.split(of.value.front()) else {
+            unreachable!()
+        };
+        (of.handle(pass), of.handle(other))
+    }
+
+    fn join(self, other: Self) -> Self {
+        let RwValueHandle { of, pass, .. } = self;
+        let RwValueHandle { pass: other, .. } = other;
+        let Ok(pass) = RwWriterPass::join(pass, other, of.value.front()) else {
+            unreachable!()
+        };
+        of.handle(pass)
     }
 }

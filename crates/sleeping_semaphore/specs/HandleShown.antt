@@ -4,6 +4,7 @@ use Rattle.std.specs.Borrow.{GName}
 use Rattle.model_events.specs.declared.event.Call.TheVariants as calls
 use Rattle.model_events.specs.declared.event.Answer.TheVariants as answers
 use Rattle.running_model.specs.Counts.{WasRefused, HasDone}
+use Rattle.running_model.specs.declared.wait.OwnWords.{OwnWords}
 use Rattle.running_semaphore.specs.SemaphoreSteps.{gave}
 use Rattle.running_semaphore.specs.SemaphoreShown as passes
 use Rattle.running_semaphore.specs.SemaphoreShown.{SemPass}
@@ -42,7 +43,7 @@ pub record HasPosted (value initial : ℕ) (p q : SemPass) : Type 0 where
 
 module _ {A : Type 0} where
   -- the lock itself, whose pass is the object's
-  abbrev pub below : SleepingSemaphore A → Semaphore A
+  abbrev pub below : SleepingSemaphore A → Semaphore A OwnWords
   below o = o.semaphore
 
   abbrev pub IsSleepingPass : SleepingSemaphore A → SemPass → Type 0

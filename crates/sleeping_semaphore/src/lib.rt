@@ -37,7 +37,7 @@ impl<A: Allocator> SleepingSemaphore<A> {
     ghost use Rattle.running_passes.specs.Views.{first_view};
     ghost use Rattle.running_model.specs.Slots.{no_parties};
     ghost use Rattle.running_model.specs.Passes.{played};
-    ghost use Rattle.running_tallies.specs.Semaphore.{first_permits};
+    ghost use Rattle.running_semaphore.specs.Semaphore.{first_permits};
     ghost use Rattle.sleeping_semaphore.specs.HandleShown.{IsSleepingPass, below, initial_of, object_of, pass_of};
 
     /// A semaphore with so many permits, at which nobody sleeps, and the pass that is whole. `Err` where there was no memory; then nothing
@@ -78,7 +78,7 @@ impl<A: Allocator> SleepingSemaphore<A> {
 }
 
 impl<'s, A: Allocator> SemaphoreHandle<'s, A> {
-    ghost use Rattle.std.specs.Prelude.{◌≡◌, None, true, MatchBool, IfSome, IfNone, IsSome};
+    ghost use Rattle.std.specs.Prelude.{◌≡◌, None, true, MatchBool, IfSome, IsSome};
     ghost use Rattle.sleeping_semaphore.specs.HandleShown.{IsSleepingPass, object_of, pass_of, handle_of, borrow_of, PassHas, HasTaken, HasTakenNow, HasGivenUp, HasSeenNone, HasPosted};
 
     /// Takes a permit, asleep until there is one.

@@ -1,4 +1,5 @@
-//! Explores every schedule of a program, read from standard input. With an argument it tells meanwhile how far it has come.
+//! Explores every schedule of a program, read from standard input. With the argument `--told` it tells the moves behind its answer, and with
+//! `progress` meanwhile how far it has come.
 //!
 //! A fault is told on standard error in one line; of a fault of the question its line follows, and a sentence that says what would be right
 //! there.
@@ -7,18 +8,29 @@
 mod progress;
 
 use explore_client::run::run;
+use explore_text::fault::ExploreFault;
 use progress::Progress;
 use std::env;
 use std::io::Write;
 use std::process::ExitCode;
 
 fn main(rt: HostRuntime) -> ExitCode {
-    let shows = match env::args(&rt) {
-        Ok(args) => args.len() > 1,
-        Err(_) => false,
-    };
+    let mut tells = false;
+    let mut shows = false;
+    if let Ok(args) = env::args(&rt) {
+        for argument in args {
+            tells |= argument.as_str() == "--told";
+            shows |= argument.as_str() == "progress";
+        }
+    }
     let mut progress = Progress::new(&rt, shows);
-    match run(rt.alloc(), &mut rt.stdin(), &mut rt.stdout(), &mut progress) {
+    match run(
+        rt.alloc(),
+        &mut rt.stdin(),
+        &mut rt.stdout(),
+        tells,
+        &mut progress,
+    ) {
         Ok(answered) => {
             if let Some(line) = answered.lost {
                 let _ = eprintln!(rt; "lost at line {line}");
@@ -28,6 +40,9 @@ fn main(rt: HostRuntime) -> ExitCode {
         Err(unanswered) => {
             let fault = unanswered.fault;
             let _ = eprintln!(rt; "{fault}");
+            if matches!(fault, ExploreFault::Search(_)) {
+                progress.tell_end();
+            }
             if let Some(advice) = &unanswered.advice {
                 let _ = rt.stderr().write_all(advice);
             }

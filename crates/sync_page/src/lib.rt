@@ -7,7 +7,7 @@
 ghost use Rattle.std.specs.Prelude.{◌≡◌, ◌≤◌, ◌<◌, length, take, None, Ok, IsErr};
 ghost use Rattle.sync_play.specs.Text.{output_of};
 ghost use Rattle.text_lines.specs.Fault.{status_of};
-ghost use Rattle.text_trace.specs.Trace.{trace_of};
+ghost use Rattle.text_trace.specs.Whole.{trace_of};
 ghost use Rattle.draw_text.specs.Picture.{IsPictureOf};
 ghost use Rattle.explore_client.specs.Report.{NoneIsMissing, IsNever};
 ghost use Rattle.explore_text.specs.declared.report.Scope.TheVariants as scopes;
@@ -197,7 +197,7 @@ pub extern "C" fn page_explore(
 {
     begin(told);
     let mut watch = Unwatched;
-    match client_text(alloc, text, &mut watch) {
+    match client_text(alloc, text, false, &mut watch) {
         Ok(answer) => {
             told.status = u64::from(answer.verdict.status());
             told.all = all_of(answer.scope);

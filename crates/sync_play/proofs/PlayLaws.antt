@@ -1,5 +1,5 @@
 -- A walk is played and printed, one more stride at a time.
-use Rattle.sync_play.proofs.Names.{nat_tests, eqb-true, eqb-false, ◌≡◌, ℕ, zero, suc, ◌<◌, true, List, [], ◌∷◌, ◌++◌, Option, Some, None, Result, Ok, Err, IfSome, refl, sym, ap, ◌∙◌, append_assoc, arith, append-nil, replicate, Act, Event, Object, Arithmetic, after, Configuration, StandsAt, is_quiet, IsQuiet, FaultyLine, TextFault, Header, IsFaultOf, lines_of, Numerals, printed, act_line, event_lines, last_line, typed_output, Walk, steps_then, nothing, go_walk, lines_walk, opened, rest_walk, IsNextStride, events_in, output_unless, output_in, output_opened, PrintsAll}
+use Rattle.sync_play.proofs.Names.{nat_tests, eqb-true, eqb-false, ◌≡◌, ℕ, zero, suc, ◌<◌, true, List, [], ◌∷◌, ◌++◌, Option, Some, None, Result, Ok, Err, IfSome, refl, sym, ap, subst, ◌∙◌, append_assoc, arith, append-nil, replicate, Act, Event, Object, Arithmetic, after, Configuration, StandsAt, is_quiet, IsQuiet, FaultyLine, TextFault, Header, IsFaultOf, lines_of, Numerals, printed, act_line, event_lines, last_line, typed_output, Walk, steps_then, nothing, go_walk, lines_walk, opened, rest_walk, after_times, IsNextStride, events_in, output_unless, output_in, output_opened, PrintsAll}
 use Rattle.sync_play.specs.declared.walk.Rest.{Rest}
 use Rattle.sync_play.specs.declared.walk.Step.{Step}
 use Rattle.sync_play.specs.declared.walk.Stride.{Stride}
@@ -54,7 +54,25 @@ module _ {T : Type 0} (z : Arithmetic T) (numerals : Numerals T) where
   pub goes_on : (o : Object T) (parties : ℕ) (past : List Ev) (first rest rest' : Rest T) (old out out' : List ℕ) (machine machine' : Configuration T) (told : Option (Stride T)) (stride : Stride T) → told ≡ Some stride →
       IsHalfway o parties past first rest old out machine → Strides rest rest' machine machine' (Ok told) → IfSome told (λ s. 0 < s.times) → IfSome told (λ s. 1 < s.times → IsQuiet s.step.event) →
       out' ≡ out ++ event_lines numerals stride.step.event → IsHalfway o parties past first rest' old out' machine'
-  goes_on o parties past first rest rest' old out out' machine machine' told stride h1 h2 h3 h4 h5 h6 = grind (arith, nat_tests, eqb-true, eqb-false, after_both, append_assoc, events_then, fault_then, stride_prints)
+  goes_on o parties past first rest rest' old out out' machine machine' told stride some before strides often quiet prints =
+      let here = before.here in
+      let e = stride.step.event in
+      let others = rest_walk z numerals o parties (after_times stride.times e here) rest' in
+      let told_is = subst (λ (t : Option (Stride T)). IsNextStride z numerals o parties here rest rest' machine' (Ok t)) some (strides o parties here before.stands) in
+      let is_some : 0 < stride.times = subst (λ (t : Option (Stride T)). IfSome t (λ s. 0 < s.times)) some often in
+      let is_quiet : 1 < stride.times → IsQuiet e = subst (λ (t : Option (Stride T)). IfSome t (λ s. 1 < s.times → IsQuiet s.step.event)) some quiet in
+      record {
+        here = after_times stride.times e here;
+        stands = told_is.1;
+        output = before.output ∙ ap (λ (w : Walk T). out ++ printed numerals (events_in w.steps)) told_is.0
+            ∙ ap (λ (l : List Ev). out ++ printed numerals l) (events_then stride.times stride.step others)
+            ∙ ap (λ (l : List ℕ). out ++ l) (stride_prints stride.times e (events_in others.steps) is_some is_quiet)
+            ∙ sym (append_assoc out (event_lines numerals e) (printed numerals (events_in others.steps)))
+            ∙ ap (λ (l : List ℕ). l ++ printed numerals (events_in others.steps)) (sym prints);
+        fault = before.fault ∙ ap (λ (w : Walk T). w.fault) told_is.0 ∙ fault_then stride.times stride.step others;
+        events = before.events ∙ ap (λ (w : Walk T). after (events_in w.steps) here) told_is.0
+            ∙ ap (λ (l : List Ev). after l here) (events_then stride.times stride.step others) ∙ after_both (replicate stride.times e) (events_in others.steps) here;
+      }
 
   pub ends : (o : Object T) (parties : ℕ) (past : List Ev) (first rest rest' : Rest T) (old out : List ℕ) (machine machine' : Configuration T) (told : Option (Stride T)) → told ≡ None → IsHalfway o parties past first rest old out machine →
       Strides rest rest' machine machine' (Ok told) → PrintsAll z numerals o parties past (rest_walk z numerals o parties past first) old out machine'

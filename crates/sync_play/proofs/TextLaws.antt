@@ -1,7 +1,7 @@
 -- What a line asks, and what the lines of a text print.
 use Rattle.sync_play.proofs.Names.{◌≡◌, ℕ, ◌+◌, List, [], ◌∷◌, ◌++◌, Some, None, Result, Ok, Err, refl, Event, Object, after, Arithmetic, Command, FaultyLine, LineFault, Header, command_of, ◌>>=◌, at_line, header_of, words_of, Numerals, command_events, printed, last_line, line_events, output_after, typed_output}
 
-pub after_both : {T : Type 0} (events more past : List (Event T)) → after (events ++ more) past ≡ after more (after events past)
+pub after_both : {E : Type 0} (events more past : List E) → after (events ++ more) past ≡ after more (after events past)
 after_both [] more past = refl
 after_both (e ∷ events) more past = after_both events more (e ∷ past)
 

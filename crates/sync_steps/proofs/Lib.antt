@@ -3,5 +3,4 @@ pub mod WatchLaws
 pub mod Objects
 pub mod Turns
 pub mod Stands
-pub mod Plays
 pub mod StrideLaws

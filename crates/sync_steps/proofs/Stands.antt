@@ -11,7 +11,7 @@ slice_get-set_same [] i v h = absurd (omega arith)
 slice_get-set_same (x ∷ xs) zero v h = refl
 slice_get-set_same (x ∷ xs) (suc i) v h = slice_get-set_same xs i v (omega arith)
 
-slice_get-set_other : {A : Type 0} (xs : List A) (i j : ℕ) (v : A) → j ≢ i → slice_get (slice_set xs i v) j ≡ slice_get xs j
+pub slice_get-set_other : {A : Type 0} (xs : List A) (i j : ℕ) (v : A) → j ≢ i → slice_get (slice_set xs i v) j ≡ slice_get xs j
 slice_get-set_other [] i j v other = refl
 slice_get-set_other (x ∷ xs) zero zero v other = absurd (other refl)
 slice_get-set_other (x ∷ xs) zero (suc j) v other = refl

@@ -3,7 +3,6 @@ use Rattle.sync_steps.proofs.Names.{◌≡◌, ℕ, zero, suc, ◌+◌, ◌*◌,
 use Rattle.sync_steps.specs.Machine.Places.{spins_at, spun_at}
 use Rattle.sync_steps.proofs.Objects.{headline}
 use Rattle.sync_steps.proofs.Stands.{slice_get-set_same, turns_step}
-use Rattle.sync_steps.proofs.Plays.{plays_none}
 
 -- Lists.
 
@@ -72,6 +71,10 @@ one_try {T} z party found doing act n i old new t made =
         failed = λ count is. made.failed ∙ counted (failures_by act) old.failed count is;
       };
     }
+
+-- nothing is played yet
+pub plays_none : {T : Type 0} (z : Arithmetic T) (m : Configuration T) → Plays z [] m [] m
+plays_none z m o parties past at = record { run = tt; stands = at; prefixes = headline z o parties past at.run }
 
 plays_first : {T : Type 0} (z : Arithmetic T) (party : ℕ) (input : Input T) (e : Event T) (schedule : List (ℕ × Input T)) (events : List (Event T)) (old mid new : Configuration T) →
     Steps z old party input e mid → Plays z schedule mid events new → Plays z ((party, input) ∷ schedule) old (e ∷ events) new

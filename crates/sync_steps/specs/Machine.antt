@@ -1,11 +1,11 @@
 -- What contracts see of a machine, when a run stands at it, and what its calls promise.
-use Rattle.std.specs.Prelude.{◌≡◌, ℕ, ◌-◌, ◌^◌, ◌<◌, ◌≤◌, min, List, ◌∷◌, length, take, Option, Some, None, slice_get, false}
-use Rattle.sync_steps.specs.Names.{ForSome, Event, Input, Object, StepFault, Word, HoldKind, Arithmetic, call_of, hold_of, failures_in, after, AtEveryPrefix, word_at}
+use Rattle.std.specs.Prelude.{◌≡◌, ℕ, ◌-◌, ◌^◌, ◌<◌, ◌≤◌, min, List, ◌∷◌, length, Option, Some, None, slice_get, false}
+use Rattle.sync_steps.specs.Names.{ForSome, Event, Input, Object, StepFault, Word, HoldKind, Arithmetic, call_of, hold_of, failures_in, ContinuesBy, ContinuesUpTo, word_at}
 use Rattle.model_events.specs.declared.words.Words.{Words}
 use Rattle.sync_steps.specs.declared.steps.fault.PlayFault.{PlayFault}
 use Rattle.sync_steps.specs.declared.steps.place.Party.{Party}
 use Rattle.sync_steps.specs.Objects.{table_of, Headline, has_word}
-use Rattle.sync_steps.specs.Runs.{word_in, fault_of, IsNext, IsPast, IsRun}
+use Rattle.sync_steps.specs.Runs.{word_in, fault_of, IsNext, IsPast}
 use Rattle.sync_steps.specs.Machine.Places.{IsParty}
 pub mod Places
 pub mod Turns
@@ -78,21 +78,16 @@ abbrev pub KeepsHeadline : {T : Type 0} → Arithmetic T → Configuration T →
 KeepsHeadline z old event = ForRunAt z old (λ o parties past. Headline z o (event ∷ past))
 
 -- after this past the events are the run of the schedule, it stands at the machine, and the headline holds at every prefix
-pub record Continues {T : Type 0} (z : Arithmetic T) (o : Object T) (parties : ℕ) (past : List (Event T)) (schedule : List (ℕ × Input T)) (events : List (Event T)) (new : Configuration T) : Type 0 where
-  pub run : IsRun z o parties past schedule events
-  pub stands : StandsAt z o parties (after events past) new
-  pub prefixes : AtEveryPrefix (Headline z o) past events
+abbrev pub Continues : {T : Type 0} → Arithmetic T → Object T → ℕ → List (Event T) → List (ℕ × Input T) → List (Event T) → Configuration T → Type 0
+Continues z o parties = ContinuesBy (λ past turn e. IsNext z o parties past turn.0 turn.1 e) (StandsAt z o parties) (Headline z o)
 
 -- the whole schedule was played, whatever run stood at the machine before
 abbrev pub Plays : {T : Type 0} → Arithmetic T → List (ℕ × Input T) → Configuration T → List (Event T) → Configuration T → Type 0
 Plays z schedule old events new = ForRunAt z old (λ o parties past. Continues z o parties past schedule events new)
 
 -- the schedule was played up to an input that the machine refused with this fault
-pub record PlaysUpTo {T : Type 0} (z : Arithmetic T) (o : Object T) (parties : ℕ) (past : List (Event T)) (schedule : List (ℕ × Input T)) (events : List (Event T)) (fault : StepFault) (new : Configuration T) : Type 0 where
-  pub before : Continues z o parties past (take (length events) schedule) events new
-  pub input : ℕ × Input T
-  pub refused : slice_get schedule (length events) ≡ Some input
-  pub fault_is : fault_of z o parties (after events past) input.0 input.1 ≡ Some fault
+abbrev pub PlaysUpTo : {T : Type 0} → Arithmetic T → Object T → ℕ → List (Event T) → List (ℕ × Input T) → List (Event T) → StepFault → Configuration T → Type 0
+PlaysUpTo z o parties = ContinuesUpTo (λ past turn e. IsNext z o parties past turn.0 turn.1 e) (StandsAt z o parties) (Headline z o) (λ past turn. fault_of z o parties past turn.0 turn.1)
 
 -- playing ended early: for want of memory before the first step, or at a refused input
 abbrev pub Refuses : {T A : Type 0} → Arithmetic T → List (ℕ × Input T) → Configuration T → Configuration T → PlayFault T A → Type 0

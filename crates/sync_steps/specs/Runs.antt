@@ -32,4 +32,4 @@ IsPast z o parties past = IsObject z o × runs.IsPast z (table_of z o) parties p
 
 -- after the past, the events are those of the schedule: one for each input, in order
 abbrev pub IsRun : {T : Type 0} → Arithmetic T → Object T → ℕ → List (Event T) → List (ℕ × Input T) → List (Event T) → Type 0
-IsRun z o parties past schedule events = runs.IsRun z (table_of z o) parties past schedule events
+IsRun z o parties past schedule events = runs.IsRunBy (λ past turn e. IsNext z o parties past turn.0 turn.1 e) past schedule events

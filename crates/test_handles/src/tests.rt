@@ -5,7 +5,9 @@ mod guarded_guards;
 mod monitor;
 mod mutex;
 mod mutex_guards;
+mod queue;
 mod refusals;
+mod rw_reader;
 mod rw_value;
 mod semaphore;
 

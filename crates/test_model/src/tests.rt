@@ -2,6 +2,8 @@
 mod atomic;
 mod growths;
 mod objects;
+mod own;
+mod rooms;
 mod schedules;
 mod strides;
 

@@ -5,6 +5,7 @@ mod bounded_buffer;
 mod condition_variable;
 mod condition_variable_parts;
 mod deadline;
+mod forms;
 mod hand_over;
 mod notified;
 mod sleepers;

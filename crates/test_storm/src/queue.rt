@@ -5,7 +5,7 @@ use crate::crowd::{Means, Object};
 use crate::platform::Platform;
 use crate::tally::Tally;
 use iceoryx2_pal_concurrency_sync::{WaitAction, WaitWord, wake_nobody};
-use job_queue::{JobQueue, PutFault, QueuePass, Taken};
+use job_queue::{JobQueue, PutFault, QueuePass, QueueWord, Taken};
 use std::alloc::{AllocError, Global};
 use std::sync::Wait;
 use std::time::Clock;
@@ -27,10 +27,20 @@ impl Object<QueuePass> for JobQueue<u64> {
         K: Fn(&WaitWord) + Copy,
         V: Fn(&WaitWord) + Copy,
     >(&self, rt: &R, pass: &mut QueuePass, number: u64, turn: u64, by: &Means<B, W, K, V>) {
+        let (tally, at) = (by.tally, by.at);
+        let by = Means {
+            tally,
+            at,
+            wait: |word: &QueueWord, seen: &u64| {
+                at.one.wait(rt, tally, word, *seen, Tally::patience())
+            },
+            wake_one: |word: &QueueWord| at.one.wake_one(word),
+            wake_all: nobody,
+        };
         if number < 2 {
-            put(rt, self, pass, turn, by);
+            put(rt, self, pass, turn, &by);
         } else {
-            take(rt, self, pass, by);
+            take(rt, self, pass, &by);
         }
     }
 
@@ -47,9 +57,9 @@ impl Object<QueuePass> for JobQueue<u64> {
 fn put<
     R: Wait,
     B: Platform + Drop,
-    W: Fn(&WaitWord, &u64) -> WaitAction + Copy,
-    K: Fn(&WaitWord) + Copy,
-    V: Fn(&WaitWord) + Copy,
+    W: Fn(&QueueWord, &u64) -> WaitAction + Copy,
+    K: Fn(&QueueWord) + Copy,
+    V: Fn(&QueueWord) + Copy,
 >(rt: &R, queue: &JobQueue<u64>, pass: &mut QueuePass, turn: u64, by: &Means<B, W, K, V>)
     requires own { IsQueuePass queue.now pass.old }
     requires may { K.IsAlwaysCallable by.now.wake_one }
@@ -59,7 +69,7 @@ fn put<
         by.tally.put(turn);
     }
     if by.tally.is_last_put(turn) {
-        queue.close(rt, pass, |word: &WaitWord| by.at.one.wake_all(word));
+        queue.close(rt, pass, |word: &QueueWord| by.at.one.wake_all(word));
     }
 }
 
@@ -67,9 +77,9 @@ fn put<
 fn take<
     R: Wait,
     B: Platform + Drop,
-    W: Fn(&WaitWord, &u64) -> WaitAction + Copy,
-    K: Fn(&WaitWord) + Copy,
-    V: Fn(&WaitWord) + Copy,
+    W: Fn(&QueueWord, &u64) -> WaitAction + Copy,
+    K: Fn(&QueueWord) + Copy,
+    V: Fn(&QueueWord) + Copy,
 >(rt: &R, queue: &JobQueue<u64>, pass: &mut QueuePass, by: &Means<B, W, K, V>)
     requires own { IsQueuePass queue.now pass.old }
     requires may { W.IsAlwaysCallable by.now.wait }
@@ -100,7 +110,9 @@ fn empty<R: Wait>(rt: &R, queue: &JobQueue<u64>, mut pass: QueuePass) -> Option<
     }
 }
 
+fn nobody(_word: &QueueWord) {}
+
 /// A wait closure that gives up at once.
-fn give_up(_word: &WaitWord, _seen: &u64) -> WaitAction {
+fn give_up(_word: &QueueWord, _seen: &u64) -> WaitAction {
     WaitAction::Abort
 }

@@ -8,6 +8,7 @@ use crate::tally::Tally;
 use iceoryx2_pal_concurrency_sync::strategy::rwlock::RwWriterPass;
 use iceoryx2_pal_concurrency_sync::{WaitAction, WaitResult, WaitWord};
 use running_rw_value::RwLock;
+use running_rw_writer::RwWriterWord;
 use std::alloc::{AllocError, Global};
 use std::sync::Wait;
 use std::time::Clock;
@@ -30,11 +31,22 @@ impl Object<RwWriterPass> for RwLock<u64> {
         K: Fn(&WaitWord) + Copy,
         V: Fn(&WaitWord) + Copy,
     >(&self, rt: &R, pass: &mut RwWriterPass, number: u64, _turn: u64, by: &Means<B, W, K, V>) {
+        let (tally, at) = (by.tally, by.at);
+        let own = at.of(number < Self::WOKEN_ALONE);
+        let by = Means {
+            tally,
+            at,
+            wait: |word: &RwWriterWord, seen: &u64| {
+                own.wait(rt, tally, word, *seen, Tally::patience())
+            },
+            wake_one: |word: &RwWriterWord| at.one.wake_one(word),
+            wake_all: |word: &RwWriterWord| at.all.wake_all(word),
+        };
         match number {
-            0 | 1 => write_within(rt, self, pass, by),
-            2 | 3 => write_with_guard(rt, self, pass, by),
-            4 | 5 => read_within(rt, self, pass, by),
-            _ => read_with_guard(rt, self, pass, by),
+            0 | 1 => write_within(rt, self, pass, &by),
+            2 | 3 => write_with_guard(rt, self, pass, &by),
+            4 | 5 => read_within(rt, self, pass, &by),
+            _ => read_with_guard(rt, self, pass, &by),
         }
     }
 
@@ -59,9 +71,9 @@ fn change(value: &mut u64, tally: &Tally) {
 fn write_within<
     R: Wait,
     B: Platform + Drop,
-    W: Fn(&WaitWord, &u64) -> WaitAction + Copy,
-    K: Fn(&WaitWord) + Copy,
-    V: Fn(&WaitWord) + Copy,
+    W: Fn(&RwWriterWord, &u64) -> WaitAction + Copy,
+    K: Fn(&RwWriterWord) + Copy,
+    V: Fn(&RwWriterWord) + Copy,
 >(rt: &R, lock: &RwLock<u64>, pass: &mut RwWriterPass, by: &Means<B, W, K, V>)
     requires own { IsRwValuePass lock.now pass.old }
     requires may { W.IsAlwaysCallable by.now.wait × K.IsAlwaysCallable by.now.wake_one × V.IsAlwaysCallable by.now.wake_all }
@@ -80,9 +92,9 @@ fn write_within<
 fn write_with_guard<
     R: Wait,
     B: Platform + Drop,
-    W: Fn(&WaitWord, &u64) -> WaitAction + Copy,
-    K: Fn(&WaitWord) + Copy,
-    V: Fn(&WaitWord) + Copy,
+    W: Fn(&RwWriterWord, &u64) -> WaitAction + Copy,
+    K: Fn(&RwWriterWord) + Copy,
+    V: Fn(&RwWriterWord) + Copy,
 >(rt: &R, lock: &RwLock<u64>, pass: &mut RwWriterPass, by: &Means<B, W, K, V>)
     requires own { IsRwValuePass lock.now pass.old }
     requires may { W.IsAlwaysCallable by.now.wait × K.IsAlwaysCallable by.now.wake_one × V.IsAlwaysCallable by.now.wake_all }
@@ -100,9 +112,9 @@ fn write_with_guard<
 fn read_within<
     R: Wait,
     B: Platform + Drop,
-    W: Fn(&WaitWord, &u64) -> WaitAction + Copy,
-    K: Fn(&WaitWord) + Copy,
-    V: Fn(&WaitWord) + Copy,
+    W: Fn(&RwWriterWord, &u64) -> WaitAction + Copy,
+    K: Fn(&RwWriterWord) + Copy,
+    V: Fn(&RwWriterWord) + Copy,
 >(rt: &R, lock: &RwLock<u64>, pass: &mut RwWriterPass, by: &Means<B, W, K, V>)
     requires own { IsRwValuePass lock.now pass.old }
     requires may { W.IsAlwaysCallable by.now.wait × K.IsAlwaysCallable by.now.wake_one }
@@ -120,9 +132,9 @@ fn read_within<
 fn read_with_guard<
     R: Wait,
     B: Platform + Drop,
-    W: Fn(&WaitWord, &u64) -> WaitAction + Copy,
-    K: Fn(&WaitWord) + Copy,
-    V: Fn(&WaitWord) + Copy,
+    W: Fn(&RwWriterWord, &u64) -> WaitAction + Copy,
+    K: Fn(&RwWriterWord) + Copy,
+    V: Fn(&RwWriterWord) + Copy,
 >(rt: &R, lock: &RwLock<u64>, pass: &mut RwWriterPass, by: &Means<B, W, K, V>)
     requires own { IsRwValuePass lock.now pass.old }
     requires may { W.IsAlwaysCallable by.now.wait × K.IsAlwaysCallable by.now.wake_one }

@@ -2,10 +2,11 @@
 
 use crate::near::nearest;
 use crate::objects::{noun, terms_of};
+use crate::repeat::repeat;
 use crate::variables::{add_variables, has_variable, nearest_variable};
 use crate::words::{
-    Spot, has, has_mark, insert, is_no_number, is_odd_number, mean, no_number, put, say, split,
-    swap,
+    Spot, before_word, front_of, has, has_mark, insert, is_no_number, is_odd_number, mean,
+    no_number, put, say, show, swap,
 };
 use std::alloc::AllocError;
 use text_lines::lexer::{is, next_word};
@@ -45,13 +46,20 @@ fn of_stranger(out: &mut Vec<u8>, at: Spot<'_>) -> Result<bool, AllocError> {
         swap(out, b"a condition has no `=`", at, b"")?;
     } else if has_mark(at.word, b"=!<>") {
         out.extend_from_slice(
-            b"a condition has no relation, but says which number is held, as x 0",
+            b"a condition has no relation: let an item look, as `if x > 2 set bad 1`, and ask for bad 1",
         )?;
     } else if has(b"& &&", at.word) {
         put(out, b"`and` joins terms", at, b"and")?;
     } else if has_mark(at.word, b",") {
-        split(out, b"`and` joins terms", at, b",", b" and")?;
-    } else if has(b"deadlock deadlocked hangs blocked", at.word) {
+        out.extend_from_slice(b"`and` joins terms")?;
+        show(out, before_word(at), front_of(at.word, b","), b" and")?;
+        repeat(out, at.behind)?;
+    } else if is(at.word, b"holds") {
+        out.extend_from_slice(noun(at.object))?;
+        out.extend_from_slice(
+            b" has no holds: count who is inside, by `add in 1` and `sub in 1`, and ask of that: in 2",
+        )?;
+    } else if has(b"deadlock deadlocked hang hangs blocked", at.word) {
         put(out, b"the term is `stuck`", at, b"stuck")?;
     } else {
         return Ok(false);
@@ -83,6 +91,10 @@ fn between(at: Spot<'_>, last: &[u8]) -> &'static [u8] {
     let ends = is(at.word, b"and") || at.word.is_empty();
     if is(last, b"holds") && !has(b"read write", at.word) {
         b" write"
+    } else if is(last, b"sleeps") && !is(at.word, b"for") {
+        b" for ever"
+    } else if is(last, b"race") && ends {
+        b" x"
     } else if ends && is_no_number(last) && has_variable(at.question, last) {
         b" 0"
     } else if is(last, b"and")
@@ -101,6 +113,7 @@ fn between(at: Spot<'_>, last: &[u8]) -> &'static [u8] {
 pub fn of_condition(out: &mut Vec<u8>, line: Spot<'_>) -> Result<(), AllocError> {
     let mut at = line;
     let mut last: &[u8] = b"and";
+    let mut first = true;
     for _ in 0..line.line.len() {
         let (word, rest) = next_word(at.behind).unwrap_or((b"", b""));
         at = Spot {
@@ -109,6 +122,9 @@ pub fn of_condition(out: &mut Vec<u8>, line: Spot<'_>) -> Result<(), AllocError>
             behind: rest,
             ..line
         };
+        if is(word, b"and") && first && !is_no_number(last) {
+            return out.extend_from_slice(b"a term is about one party: 1 stuck and 2 stuck");
+        }
         let missing = between(at, last);
         if !missing.is_empty() {
             return insert(out, b"a word is missing", at, missing);
@@ -123,6 +139,7 @@ pub fn of_condition(out: &mut Vec<u8>, line: Spot<'_>) -> Result<(), AllocError>
                 no_term(out, at)
             };
         }
+        first = is(last, b"and");
         last = word;
     }
     list_terms(out, at)

@@ -2,11 +2,12 @@
 
 use crate::near::{nearest, nearest_call};
 use crate::objects::answers_of;
+use crate::repeat::{lacks_blanks, repeat, repeat_apart};
 use crate::sentence::{list_calls, no_call};
 use crate::variables::{add_variables, has_variable, nearest_variable};
 use crate::words::{
-    Spot, bare, first_word, front_of, has, has_mark, insert, is_no_number, is_odd_number, mean,
-    no_number, put, say, show, split, swap, widen,
+    Spot, bare, before, before_word, first_word, front_of, has, has_like, has_mark, insert,
+    is_no_number, is_odd_number, mean, no_number, put, say, show, swap,
 };
 use model_events::event::{Call, Object};
 use std::alloc::AllocError;
@@ -101,10 +102,7 @@ fn behind_answer(object: Object<()>, word: &[u8]) -> Option<Next> {
     if is(word, b"then") {
         Some(Next::Tested)
     } else {
-        only(
-            has(answers_of(object), word) || has(answers_of(object), b"7") && !is_no_number(word),
-            Next::Answer,
-        )
+        only(has_like(answers_of(object), word), Next::Answer)
     }
 }
 
@@ -161,29 +159,50 @@ fn near_item(at: Spot<'_>) -> &'static [u8] {
     }
 }
 
+/// Of a word that joins items or tests elsewhere.
+fn no_joint(out: &mut Vec<u8>, at: Spot<'_>) -> Result<(), AllocError> {
+    let first = first_word(at.item);
+    if is(at.word, b"else") {
+        out.extend_from_slice(b"there is no `else`: the contrary is a test of its own")
+    } else if is(at.word, b"then") {
+        swap(out, b"a `then` stands behind `last` alone", at, b"")
+    } else if is(first, b"while") {
+        out.extend_from_slice(b"a `while` has one test; two want a variable more, at first 1: ")?;
+        out.extend_from_slice(b"while on = 1 ( set on 0, if x = 0 if y = 0 ( set on 1, .. ) )")
+    } else if is(first, b"if") {
+        put(
+            out,
+            b"a test has no `and`, but its item may be a test",
+            at,
+            b"if",
+        )
+    } else {
+        swap(out, b"a comma parts two items", at, b"")
+    }
+}
+
 /// Of a word that is to begin an item, and begins none.
 fn no_item(out: &mut Vec<u8>, at: Spot<'_>) -> Result<(), AllocError> {
     let near = near_item(at);
     if ends_item(at.word) {
         say(out, b"an item is missing before `", at.word, b"`")
-    } else if has_mark(at.word, b",;") {
-        split(out, b"a comma and a blank part two items", at, b",;", b",")
     } else if at.word.ends_with(b"()") {
         put(
             out,
             b"no parentheses follow a call",
             at,
-            at.word.strip_suffix(b"()").unwrap_or(b""),
+            front_of(at.word, b"("),
         )
-    } else if has_mark(at.word, b"()") {
-        widen(out, b"a parenthesis is a word of its own", at, b"()")
     } else if tells_of_closures(at.left) {
         out.extend_from_slice(b"what is said of closures stands in a line of its own")?;
         show(out, first_word(at.line), b"", at.left)
-    } else if is(at.word, b"and") {
-        out.extend_from_slice(
-            b"a test has no `and`, but its item may be a test: if x = 0 if y = 0 ..",
-        )
+    } else if tells_of_closures(near) && has_mark(before_word(at), b",") {
+        out.extend_from_slice(b"what is said of closures stands in a line of its own")?;
+        show(out, first_word(at.line), b" ", near)
+    } else if has(b"and & && then else", at.word) {
+        no_joint(out, at)
+    } else if has(b"+ -", at.word) {
+        no_sum(out, at)
     } else if has_variable(at.question, front_of(at.word, b"+-=")) {
         say(
             out,
@@ -203,12 +222,48 @@ fn no_item(out: &mut Vec<u8>, at: Spot<'_>) -> Result<(), AllocError> {
     }
 }
 
+/// Of a sum: a change of a variable by what comes behind it, or another.
+fn no_sum(out: &mut Vec<u8>, at: Spot<'_>) -> Result<(), AllocError> {
+    out.extend_from_slice(b"a value is a number or a variable, and no sum")?;
+    let (_, name) = next_word(at.item).unwrap_or((b"", b""));
+    let (_, value) = next_word(name).unwrap_or((b"", b""));
+    if is(first_word(at.item), b"set") && is(first_word(name), first_word(value)) {
+        let change: &[u8] = if is(at.word, b"+") {
+            b" add "
+        } else {
+            b" sub "
+        };
+        show(
+            out,
+            before(at.line, at.item.len()),
+            change,
+            first_word(name),
+        )?;
+        repeat(out, at.behind)
+    } else {
+        out.extend_from_slice(b": `add` and `sub` change a variable")
+    }
+}
+
+/// The variable that a test denies, and what comes behind it. Empty where it denies none.
+fn denied<'a>(at: Spot<'a>) -> (&'a [u8], &'a [u8]) {
+    if has(b"not !", at.word) {
+        next_word(at.behind).unwrap_or((b"", b""))
+    } else {
+        (at.word.strip_prefix(b"!").unwrap_or(b""), at.behind)
+    }
+}
+
 /// Of a word that is to name a variable, and names none.
 fn no_variable(out: &mut Vec<u8>, at: Spot<'_>) -> Result<(), AllocError> {
     let near = nearest_variable(at.question, at.word);
-    if has_mark(at.word, b"=!<>") {
-        widen(out, b"blanks stand round a relation", at, b"=!<>")
-    } else if has_mark(at.word, b"()") {
+    let (name, rest) = denied(at);
+    if has_variable(at.question, name) {
+        out.extend_from_slice(b"a test compares with a value")?;
+        show(out, before(at.line, at.left.len()), b" ", name)?;
+        out.extend_from_slice(b" = 0")?;
+        repeat(out, rest)
+    } else if at.word.starts_with(b"(") {
         out.extend_from_slice(b"no parentheses stand round a test")
     } else if !is_no_number(at.word) || ends_item(at.word) || begins_items(at.object, at.word) {
         say(out, b"a variable stands here, and not `", at.word, b"`")?;
@@ -234,6 +289,10 @@ fn no_value(out: &mut Vec<u8>, at: Spot<'_>) -> Result<(), AllocError> {
         say(out, b"a value is missing before `", at.word, b"`")
     } else if is_odd_number(at.word) {
         no_number(out, at.word)
+    } else if has(b"true yes", at.word) {
+        put(out, b"a value is a number or a variable", at, b"1")
+    } else if has(b"false no", at.word) {
+        put(out, b"a value is a number or a variable", at, b"0")
     } else {
         no_variable(out, at)
     }
@@ -250,14 +309,16 @@ fn no_relation(out: &mut Vec<u8>, at: Spot<'_>) -> Result<(), AllocError> {
             at.word,
             b"`",
         )
-    } else if has_mark(at.word, b"=!<>") {
-        widen(out, b"blanks stand round a relation", at, b"=!<>")
     } else {
         insert(
             out,
-            b"a relation stands behind a variable, one of =, !=, <, >",
+            b"a test is a variable, one of =, !=, <, >, and a value",
             at,
-            b" =",
+            if begins_items(at.object, at.word) {
+                b" = 1"
+            } else {
+                b" ="
+            },
         )
     }
 }
@@ -284,7 +345,7 @@ fn no_answer(out: &mut Vec<u8>, at: Spot<'_>) -> Result<(), AllocError> {
 
 /// Of a word that is to be a number of a call, and is none.
 fn no_number_of_call(out: &mut Vec<u8>, at: Spot<'_>, numbers: &[u8]) -> Result<(), AllocError> {
-    if ends_item(at.word) {
+    if at.word.is_empty() || ends_item(at.word) {
         insert(out, b"a number is missing behind the call", at, numbers)
     } else {
         no_number(out, at.word)
@@ -299,6 +360,8 @@ fn no_comma(out: &mut Vec<u8>, at: Spot<'_>) -> Result<(), AllocError> {
         swap(out, b"no number follows here", at, b"")
     } else if has(b"and then & &&", at.word) {
         swap(out, b"a comma parts two items", at, b",")
+    } else if has(b"+ -", at.word) {
+        no_sum(out, at)
     } else if begins_items(at.object, at.word) || !near_item(at).is_empty() {
         insert(out, b"a comma parts two items", at, b",")
     } else {
@@ -311,8 +374,26 @@ fn no_comma(out: &mut Vec<u8>, at: Spot<'_>) -> Result<(), AllocError> {
     }
 }
 
+/// Whether a word is several, but for a call or a change of a variable as other languages write it, and a test in parentheses.
+fn is_glued(at: Spot<'_>, next: Next) -> bool {
+    let speaks = match next {
+        Next::Item | Next::Tested => {
+            at.word.ends_with(b"()") || has_variable(at.question, front_of(at.word, b"+-="))
+        }
+        Next::Variable => at.word.starts_with(b"(") || at.word.starts_with(b"!"),
+        _ => false,
+    };
+    !speaks && lacks_blanks(at.word)
+}
+
 /// Of a word that cannot stand here.
 fn no_word(out: &mut Vec<u8>, at: Spot<'_>, next: Next) -> Result<(), AllocError> {
+    if is_glued(at, next) {
+        out.extend_from_slice(
+            b"a comma and a blank part items, and blanks stand round parentheses and relations: ",
+        )?;
+        return repeat_apart(out, at.line);
+    }
     match next {
         Next::Item | Next::Tested => no_item(out, at),
         Next::Variable | Next::Changed => no_variable(out, at),
@@ -323,6 +404,14 @@ fn no_word(out: &mut Vec<u8>, at: Spot<'_>, next: Next) -> Result<(), AllocError
         Next::Number => no_number_of_call(out, at, b" 1"),
         Next::Behind => no_comma(out, at),
     }
+}
+
+/// Adds so many closing parentheses.
+fn close(out: &mut Vec<u8>, open: usize) -> Result<(), AllocError> {
+    for _ in 0..open {
+        out.extend_from_slice(b" )")?;
+    }
+    Ok(())
 }
 
 /// Of a line that ends where this comes next.
@@ -345,17 +434,11 @@ fn no_more(out: &mut Vec<u8>, at: Spot<'_>, next: Next, open: usize) -> Result<(
         Next::Changed | Next::Amount => {
             out.extend_from_slice(b"a variable and a value follow `set`, `add` and `sub`: set x 1")
         }
-        Next::TwoNumbers => {
-            out.extend_from_slice(b"two numbers are missing behind the call")?;
-            show(out, at.line, b" 0 1", b"")
-        }
-        Next::Number => {
-            out.extend_from_slice(b"a number is missing behind the call")?;
-            show(out, at.line, b" 1", b"")
-        }
+        Next::TwoNumbers | Next::Number => no_word(out, at, next),
         Next::Behind if open > 0 => {
-            out.extend_from_slice(b"a parenthesis is not closed")?;
-            show(out, at.line, b" )", b"")
+            out.extend_from_slice(b"a parenthesis is not closed; where the line's end closes it")?;
+            show(out, at.line, b"", b"")?;
+            close(out, open)
         }
         Next::Behind => out.extend_from_slice(
             b"`last` looks at a call of the party that comes before it",
@@ -387,13 +470,22 @@ pub fn of_items(out: &mut Vec<u8>, line: Spot<'_>) -> Result<(), AllocError> {
             left: at.behind,
             word,
             behind: rest,
-            ..line
+            ..at
         };
-        match behind(at, next, open) {
-            Some(then) => next = then,
-            None => return no_word(out, at, next),
+        let Some(then) = behind(at, next, open) else {
+            return no_word(out, at, next);
+        };
+        if matches!(next, Next::Item | Next::Tested) {
+            at.item = at.left;
         }
+        next = then;
         open = open_behind(open, word);
     }
-    no_more(out, line, next, open)
+    let end = Spot {
+        left: b"",
+        word: b"",
+        behind: b"",
+        ..at
+    };
+    no_more(out, end, next, open)
 }

@@ -12,11 +12,13 @@ mod objects;
 pub mod question;
 mod repeat;
 mod sentence;
+mod several;
 mod variables;
 mod words;
 
 use crate::repeat::repeat;
 use crate::sentence::advise;
+use crate::several::begins_several;
 pub use failed::Failed;
 use model_events::event::Object;
 use std::alloc::{AllocError, Global};
@@ -54,7 +56,11 @@ pub fn explain(alloc: Global, text: &[u8], found: FaultyLine) -> Result<Vec<u8>,
     let mut out = Vec::new(alloc);
     repeat(&mut out, line)?;
     out.extend_from_slice(b"\n")?;
-    advise(&mut out, object_of(text), line, found)?;
+    if begins_several(text) {
+        several::advise(&mut out, text, line, found)?;
+    } else {
+        advise(&mut out, object_of(text), line, found)?;
+    }
     out.extend_from_slice(b"\n")?;
     Ok(out)
 }

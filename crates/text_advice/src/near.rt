@@ -17,27 +17,22 @@ fn small(byte: u8) -> u8 {
     }
 }
 
-/// Both without the bytes that they begin with alike, whatever their case.
-fn without_fronts<'a>(word: &'a [u8], name: &'a [u8]) -> (&'a [u8], &'a [u8]) {
-    let (mut word, mut name) = (word, name);
-    for _ in 0..LONGEST {
-        match (word.split_first(), name.split_first()) {
-            (Some((one, rest)), Some((other, others))) if small(*one) == small(*other) => {
-                word = rest;
-                name = others;
-            }
-            _ => return (word, name),
-        }
-    }
-    (word, name)
+/// The first byte of a word, or its last, as a small letter, and the rest.
+fn cut(word: &[u8], last: bool) -> Option<(u8, &[u8])> {
+    let (byte, rest) = if last {
+        word.split_last()?
+    } else {
+        word.split_first()?
+    };
+    Some((small(*byte), rest))
 }
 
-/// Both without the bytes that they end with alike.
-fn without_ends<'a>(word: &'a [u8], name: &'a [u8]) -> (&'a [u8], &'a [u8]) {
+/// Both without the bytes that they begin with, or end with, alike.
+fn without_alike<'a>(word: &'a [u8], name: &'a [u8], last: bool) -> (&'a [u8], &'a [u8]) {
     let (mut word, mut name) = (word, name);
     for _ in 0..LONGEST {
-        match (word.split_last(), name.split_last()) {
-            (Some((one, rest)), Some((other, others))) if small(*one) == small(*other) => {
+        match (cut(word, last), cut(name, last)) {
+            (Some((one, rest)), Some((other, others))) if one == other => {
                 word = rest;
                 name = others;
             }
@@ -50,8 +45,8 @@ fn without_ends<'a>(word: &'a [u8], name: &'a [u8]) -> (&'a [u8], &'a [u8]) {
 /// Whether two bytes have changed places; or in a longer word one is missing, one too many or another.
 fn is_slip(word: &[u8], name: &[u8]) -> bool {
     let is_long = word.len().max(name.len()) > 3;
-    let (word, name) = without_fronts(word, name);
-    let (word, name) = without_ends(word, name);
+    let (word, name) = without_alike(word, name, false);
+    let (word, name) = without_alike(word, name, true);
     match (word, name) {
         ([one, two], [other, another]) => *one == *another && *two == *other,
         _ => is_long && word.len() <= 1 && name.len() <= 1,

@@ -28,16 +28,6 @@ pub fn noun(object: Object<()>) -> &'static [u8] {
     }
 }
 
-/// What its first line has behind the number of parties.
-pub fn first_value(object: Object<()>) -> &'static [u8] {
-    match object {
-        Object::Semaphore(_) | Object::Atomic(_) => b"a value",
-        Object::Barrier(_) => b"how many open a round",
-        Object::Lazy(_) => b"the value that its closure gives",
-        _ => b"no value",
-    }
-}
-
 /// The words after its name in a line that opens it for two parties.
 pub fn first_words(object: Object<()>) -> &'static [u8] {
     match object {
@@ -47,23 +37,23 @@ pub fn first_words(object: Object<()>) -> &'static [u8] {
     }
 }
 
-/// Which value its first line may have behind the parties, where it is called so.
-pub fn first_numbers(object: Object<()>, name: &[u8]) -> &'static [u8] {
+/// What its first line has behind the number of parties, where it is called so.
+pub fn first_value(object: Object<()>, name: &[u8]) -> &'static [u8] {
     match object {
-        Object::Barrier(_) => b", and 0 to 4294967295 arrivals open a round",
+        Object::Barrier(_) => b"0 to 4294967295 arrivals that open a round",
         Object::Atomic(_) if is(name, b"atomic_i64") => {
-            b", and the value is -9223372036854775808 to 9223372036854775807"
+            b"a value of -9223372036854775808 to 9223372036854775807"
         }
         Object::Atomic(_) if is(name, b"atomic_u128") => {
-            b", and the value is 0 to 340282366920938463463374607431768211455"
+            b"a value of 0 to 340282366920938463463374607431768211455"
         }
         Object::Atomic(_) if is(name, b"atomic_i128") => {
-            b", and the value is -170141183460469231731687303715884105728 to 170141183460469231731687303715884105727"
+            b"a value of -170141183460469231731687303715884105728 to 170141183460469231731687303715884105727"
         }
         Object::Semaphore(_) | Object::Lazy(_) | Object::Atomic(_) => {
-            b", and the value is 0 to 18446744073709551615"
+            b"a value of 0 to 18446744073709551615"
         }
-        _ => b"",
+        _ => b"no value",
     }
 }
 
@@ -71,25 +61,12 @@ pub fn first_numbers(object: Object<()>, name: &[u8]) -> &'static [u8] {
 pub fn numbers_after(object: Object<()>) -> &'static [u8] {
     match object {
         Object::Semaphore(_) => {
-            b"a number follows `post`, and may follow `go`, and none follows the others"
+            b"`post` gives 0 to 18446744073709551615 permits, `go` makes 1 to 100000 steps, and no number follows the others"
         }
         Object::Atomic(_) => {
-            b"two values follow `compare_exchange`, one follows `some` and each call but `load` and `fetch_update`, and a number may follow `go`"
+            b"two values of the atomic's type follow `compare_exchange`, one follows `some` and each call but `load` and `fetch_update`, and `go` makes 1 to 100000 steps"
         }
-        _ => b"a number may follow `go`, and none follows the others",
-    }
-}
-
-/// The range of the numbers that follow.
-pub fn numbers_within(object: Object<()>) -> &'static [u8] {
-    match object {
-        Object::Semaphore(_) => {
-            b"`go` makes 1 to 100000 steps, and `post` gives 0 to 18446744073709551615 permits"
-        }
-        Object::Atomic(_) => {
-            b"`go` makes 1 to 100000 steps, and a value is one of the atomic's type, in decimal digits"
-        }
-        _ => b"`go` makes 1 to 100000 steps",
+        _ => b"`go` makes 1 to 100000 steps, and no number follows the others",
     }
 }
 

@@ -28,10 +28,67 @@ fn add_byte(out: &mut Vec<u8>, byte: u8) -> Result<(), AllocError> {
     }
 }
 
+fn dots(words: &[u8]) -> &'static [u8] {
+    if words.len() > MOST { b".." } else { b"" }
+}
+
 /// Adds words of a text, up to 200 bytes of them and then two dots. What a terminal may take for more than a character is told by its number, `\x1b`.
 pub fn repeat(out: &mut Vec<u8>, words: &[u8]) -> Result<(), AllocError> {
     for byte in words.iter().take(MOST) {
         add_byte(out, *byte)?;
     }
-    out.extend_from_slice(if words.len() > MOST { b".." } else { b"" })
+    out.extend_from_slice(dots(words))
+}
+
+fn is_parenthesis(byte: u8) -> bool {
+    b"()".contains(&byte)
+}
+
+fn is_relation(byte: u8) -> bool {
+    b"=!<>".contains(&byte)
+}
+
+/// Whether a blank is missing between these bytes: it stands round parentheses and relations, and behind a comma.
+fn lacks_blank(one: u8, other: u8) -> bool {
+    let parts = one == b','
+        || is_parenthesis(one)
+        || is_parenthesis(other)
+        || is_relation(one) != is_relation(other);
+    parts && !b" \t".contains(&one) && !b" \t,".contains(&other)
+}
+
+/// The mark that stands for another in a question.
+fn mark_for(byte: u8) -> u8 {
+    match byte {
+        b';' => b',',
+        b'{' => b'(',
+        b'}' => b')',
+        _ => byte,
+    }
+}
+
+/// Whether a word has a mark that stands for another, or lacks a blank.
+pub fn lacks_blanks(word: &[u8]) -> bool {
+    let mut last = b' ';
+    for byte in word {
+        if mark_for(*byte) != *byte || lacks_blank(last, *byte) {
+            return true;
+        }
+        last = *byte;
+    }
+    false
+}
+
+/// The same, with the blanks that are missing, and with a question's marks.
+pub fn repeat_apart(out: &mut Vec<u8>, words: &[u8]) -> Result<(), AllocError> {
+    let mut last = b' ';
+    for byte in words.iter().take(MOST) {
+        let byte = mark_for(*byte);
+        if lacks_blank(last, byte) {
+            out.push(b' ')?;
+        }
+        add_byte(out, byte)?;
+        last = byte;
+    }
+    out.extend_from_slice(dots(words))
 }

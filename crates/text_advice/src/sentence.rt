@@ -2,8 +2,7 @@
 
 use crate::near::{nearest, nearest_call};
 use crate::objects::{
-    answers, first_numbers, first_value, first_words, noun, numbers_after, numbers_within,
-    texts_objects, verbs_of,
+    answers, first_value, first_words, noun, numbers_after, texts_objects, verbs_of,
 };
 use crate::words::{
     Spot, before_word, first_spot, first_word, front_of, has_comment, has_mark, is_no_number, mean,
@@ -16,6 +15,7 @@ use text_lines::command::is_known;
 use text_lines::fault::{FaultyLine, LineFault};
 use text_lines::lexer::{is, next_word};
 use text_lines::objects::calls_of;
+use text_lines::several::is_several;
 
 /// Adds the names of calls, with commas between.
 fn add_names(out: &mut Vec<u8>, calls: &[Call<()>]) -> Result<(), AllocError> {
@@ -91,16 +91,6 @@ fn of_bad_line(out: &mut Vec<u8>, at: Spot<'_>) -> Result<(), AllocError> {
     }
 }
 
-/// Of a line with a number that is none, or out of its range.
-fn of_bad_number(out: &mut Vec<u8>, object: Object<()>, line: &[u8]) -> Result<(), AllocError> {
-    match next_word(line) {
-        Some((party, _)) if is_no_number(party) => {
-            out.extend_from_slice(b"a line begins with the number of a party, in decimal digits")
-        }
-        _ => out.extend_from_slice(numbers_within(object)),
-    }
-}
-
 /// Whether a line asks for so many steps.
 fn counts_steps(line: &[u8]) -> bool {
     let Some((_, rest)) = next_word(line) else {
@@ -148,29 +138,39 @@ fn of_early_answer(out: &mut Vec<u8>, object: Object<()>, line: &[u8]) -> Result
 }
 
 /// Of a first line that names this object.
-pub fn of_first_line(
-    out: &mut Vec<u8>,
-    object: Object<()>,
-    line: &[u8],
-    fault: LineFault,
-) -> Result<(), AllocError> {
+pub fn of_first_line(out: &mut Vec<u8>, object: Object<()>, line: &[u8]) -> Result<(), AllocError> {
     let name = first_word(line);
     if has_comment(line) {
         return of_comment(out, line);
     }
-    match fault {
-        LineFault::BadNumber => {
-            out.extend_from_slice(b"there are 1 to 64 parties")?;
-            out.extend_from_slice(first_numbers(object, name))?;
-            out.extend_from_slice(b", in decimal digits")
+    out.extend_from_slice(noun(object))?;
+    out.extend_from_slice(b"'s first line has 1 to 64 parties, and ")?;
+    out.extend_from_slice(first_value(object, name))?;
+    say(out, b": ", name, first_words(object))
+}
+
+/// Of a line that a party cannot do, of whichever object.
+pub fn of_any_party(out: &mut Vec<u8>, line: &[u8], fault: LineFault) -> Result<(), AllocError> {
+    out.extend_from_slice(match fault {
+        LineFault::NoParty =>
+            b"the parties are numbered from 1, and the first line says how many there are",
+        LineFault::Busy => b"the party has a call under way: `go` and `run` move it on",
+        LineFault::Holding => b"the party has a hold already: `unlock` gives it back",
+        LineFault::NoHold => b"the party has no hold, and this call needs one",
+        LineFault::Idle if counts_steps(line) => {
+            b"the call ended before these steps, or none was under way: `run` goes to its end"
         }
-        _ => {
-            out.extend_from_slice(noun(object))?;
-            out.extend_from_slice(b"'s first line has a number of parties, and ")?;
-            out.extend_from_slice(first_value(object))?;
-            say(out, b": ", name, first_words(object))
+        LineFault::Idle => {
+            b"the party has no call under way, and begins one by its object's name and its own"
         }
-    }
+        LineFault::Waiting => {
+            b"the call waits at its closure, which answers `wait` or `abort`; an atomic's `some` and a value, or `none`"
+        }
+        LineFault::StepLimit => {
+            b"in 100000 steps the call came to no end: another party may have to move first"
+        }
+        _ => b"no closure waits for this answer: `go` and `run` move a call on",
+    })
 }
 
 /// Of a line after the first.
@@ -181,26 +181,17 @@ fn of_line(
     fault: LineFault,
 ) -> Result<(), AllocError> {
     match fault {
-        LineFault::NoObject | LineFault::BadLine => of_bad_line(out, first_spot(object, b"", line)),
-        LineFault::BadNumber => of_bad_number(out, object, line),
-        LineFault::NoParty => out.extend_from_slice(
-            b"the parties are numbered from 1, and the first line says how many there are",
-        ),
-        LineFault::Busy => out.extend_from_slice(
-            b"the party has a call under way: `go` and `run` move it on",
-        ),
-        LineFault::Holding => out.extend_from_slice(
-            b"the party has a hold already: `unlock` gives it back",
-        ),
-        LineFault::NoHold => out.extend_from_slice(
-            b"the party has no hold, and this call needs one",
-        ),
+        LineFault::NoObject | LineFault::BadLine | LineFault::BadNumber => {
+            of_bad_line(out, first_spot(object, b"", line))
+        }
         LineFault::Idle => of_idle(out, object, line),
         LineFault::Waiting => out.extend_from_slice(answers(object)),
         LineFault::NotWaiting => of_early_answer(out, object, line),
-        LineFault::StepLimit => out.extend_from_slice(
-            b"in 100000 steps the call came to no end: another party may have to move first",
-        ),
+        LineFault::NoParty
+        | LineFault::Busy
+        | LineFault::Holding
+        | LineFault::NoHold
+        | LineFault::StepLimit => of_any_party(out, line, fault),
     }
 }
 
@@ -222,6 +213,8 @@ pub fn no_object(
             b" has no comments, and begins with its object",
             b"",
         )
+    } else if is_several(line) {
+        out.extend_from_slice(b"a question is about one object")
     } else if !near.is_empty() {
         mean(out, at, near)
     } else {
@@ -238,7 +231,7 @@ pub fn advise(
 ) -> Result<(), AllocError> {
     match object {
         None => no_object(out, line, b"a text", texts_objects()),
-        Some(object) if found.line == 1 => of_first_line(out, object, line, found.fault),
+        Some(object) if found.line == 1 => of_first_line(out, object, line),
         Some(object) => of_line(out, object, line, found.fault),
     }
 }

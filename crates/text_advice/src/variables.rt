@@ -16,34 +16,30 @@ fn variable_of(line: &[u8]) -> &[u8] {
     }
 }
 
-/// Whether a question names this variable.
-pub fn has_variable(question: &[u8], name: &[u8]) -> bool {
+/// The variable that a word names, or, where that is asked, nearly names. Empty where there is none.
+fn named<'a>(question: &'a [u8], word: &[u8], nearly: bool) -> &'a [u8] {
     let mut rest = question;
     for _ in 0..question.len() {
         let Some((line, after)) = next_line(rest) else {
             break;
         };
         rest = after;
-        if !name.is_empty() && is(variable_of(line), name) {
-            return true;
+        let name = variable_of(line);
+        if is(name, word) || nearly && is_near(word, name) {
+            return name;
         }
     }
-    false
+    &[]
+}
+
+/// Whether a question names this variable.
+pub fn has_variable(question: &[u8], name: &[u8]) -> bool {
+    !named(question, name, false).is_empty()
 }
 
 /// The variable that a word nearly names. Empty where there is none.
 pub fn nearest_variable<'a>(question: &'a [u8], word: &[u8]) -> &'a [u8] {
-    let mut rest = question;
-    for _ in 0..question.len() {
-        let Some((line, after)) = next_line(rest) else {
-            break;
-        };
-        rest = after;
-        if is_near(word, variable_of(line)) {
-            return variable_of(line);
-        }
-    }
-    &[]
+    named(question, word, true)
 }
 
 /// Adds the variables that a question names.

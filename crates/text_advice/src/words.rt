@@ -11,6 +11,7 @@ use text_lines::lexer::{is, next_word, number_within};
 #[derive(Clone, Copy)]
 pub struct Spot<'a> {
     pub object: Object<()>,
+    /// What stands before the line.
     pub question: &'a [u8],
     pub line: &'a [u8],
     /// What is left of the line, from this word on.
@@ -18,10 +19,12 @@ pub struct Spot<'a> {
     pub word: &'a [u8],
     /// What is left behind it.
     pub behind: &'a [u8],
+    /// What is left of the line from the item on in which the word is, or which it is to begin.
+    pub item: &'a [u8],
 }
 
 /// What stands in a line before so many bytes of its end.
-fn before(line: &[u8], bytes: usize) -> &[u8] {
+pub fn before(line: &[u8], bytes: usize) -> &[u8] {
     &line[..line.len().saturating_sub(bytes)]
 }
 
@@ -83,62 +86,6 @@ pub fn front_of<'a>(word: &'a [u8], marks: &[u8]) -> &'a [u8] {
     &word[..mark_at(word, marks)]
 }
 
-/// How many of these marks a word begins with.
-fn marks_of(word: &[u8], marks: &[u8]) -> usize
-    ensures { result ≤ length word.now }
-{
-    word.iter()
-        .position(|byte| !marks.contains(byte))
-        .unwrap_or(word.len())
-        .min(word.len())
-}
-
-fn between<'a>(front: &[u8], end: &[u8], blank: &'a [u8]) -> &'a [u8] {
-    if front.is_empty() || end.is_empty() {
-        b""
-    } else {
-        blank
-    }
-}
-
-/// Adds how the line should be, with blanks round the first of these marks in the word.
-pub fn widen(
-    out: &mut Vec<u8>,
-    words: &[u8],
-    at: Spot<'_>,
-    marks: &[u8],
-) -> Result<(), AllocError> {
-    out.extend_from_slice(words)?;
-    let from = mark_at(at.word, marks);
-    let (front, rest) = (&at.word[..from], &at.word[from..]);
-    let to = marks_of(rest, marks);
-    let (mark, end) = (&rest[..to], &rest[to..]);
-    show(out, before_word(at), front, b"")?;
-    out.extend_from_slice(between(front, mark, b" "))?;
-    repeat(out, mark)?;
-    out.extend_from_slice(between(mark, end, b" "))?;
-    repeat(out, end)?;
-    repeat(out, at.behind)
-}
-
-/// The same, with this in the place of the mark and a blank behind it.
-pub fn split(
-    out: &mut Vec<u8>,
-    words: &[u8],
-    at: Spot<'_>,
-    marks: &[u8],
-    new: &[u8],
-) -> Result<(), AllocError> {
-    out.extend_from_slice(words)?;
-    let from = mark_at(at.word, marks);
-    let (front, rest) = (&at.word[..from], &at.word[from..]);
-    let end = &rest[marks_of(rest, marks)..];
-    show(out, before_word(at), front, new)?;
-    out.extend_from_slice(between(front, end, b" "))?;
-    repeat(out, end)?;
-    repeat(out, at.behind)
-}
-
 /// Adds that a word stands for this one, and how the line should be.
 pub fn mean(out: &mut Vec<u8>, at: Spot<'_>, near: &[u8]) -> Result<(), AllocError> {
     say(out, b"there is no `", at.word, b"`, but `")?;
@@ -172,6 +119,11 @@ pub fn has(list: &[u8], word: &[u8]) -> bool {
         }
     }
     false
+}
+
+/// Whether these words have this one; a number, where they have `7`.
+pub fn has_like(list: &[u8], word: &[u8]) -> bool {
+    has(list, word) || has(list, b"7") && !is_no_number(word)
 }
 
 /// Whether a word begins a comment in many languages.
@@ -217,6 +169,7 @@ pub fn first_spot<'a>(object: Object<()>, question: &'a [u8], line: &'a [u8]) ->
         left: line,
         word,
         behind,
+        item: line,
     }
 }
 

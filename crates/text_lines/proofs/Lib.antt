@@ -3,3 +3,4 @@ pub mod LexerLaws
 pub mod FaultLaws
 pub mod CommandLaws
 pub mod HeaderLaws
+pub mod SeveralLaws

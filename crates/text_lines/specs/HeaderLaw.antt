@@ -1,7 +1,6 @@
 -- A first line opens the object that its words name.
 use Rattle.std.specs.Prelude.{◌≡◌, ℕ, ◌<◌, ◌≤◌, ◌^◌, List, [], ◌∷◌, Ok, codes}
 use Rattle.text_lines.specs.Names.{Object, Arithmetic, IsValue, decimal}
-use Rattle.text_lines.specs.declared.header.Header.{Header}
 use Rattle.text_lines.specs.declared.value_type.ValueType.{ValueType}
 use Rattle.text_lines.specs.Header.{header_of}
 use Rattle.text_lines.specs.Numerals.{Numerals}

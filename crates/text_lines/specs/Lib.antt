@@ -4,6 +4,7 @@ pub mod Lexer
 pub mod Numerals
 pub mod NumeralLaws
 pub mod Objects
+pub mod Several
 pub mod ValueTypes
 pub mod Header
 pub mod HeaderLaw

@@ -59,7 +59,7 @@ impl<T: Copy> Clone for Command<T> {
 
 /// What a verb that every object knows asks, and the numbers that follow it.
 #[derive(Copy)]
-enum Form<T> {
+pub(crate) enum Form<T> {
     /// This task; no number follows.
     Alone(Task<T>),
     /// Steps: one, or as many as the number says that may follow.
@@ -80,7 +80,7 @@ impl<T: Copy> Clone for Form<T> {
 
 /// The verbs that every object knows.
 #[inline(always)]
-fn verb<T>(name: &[u8]) -> Option<Form<T>>
+pub(crate) fn verb<T>(name: &[u8]) -> Option<Form<T>>
     ensures { result ≡ find name.now meaning.verbs }
 {
     if is(name, b"go") {
@@ -118,7 +118,7 @@ fn steps<T>(rest: &[u8]) -> Result<Task<T>, LineFault>
 }
 
 /// The task that a verb of every object asks with the words after it.
-fn with_numbers<T: TextInteger>(form: Form<T>, rest: &[u8]) -> Result<Task<T>, LineFault>
+pub(crate) fn with_numbers<T: TextInteger>(form: Form<T>, rest: &[u8]) -> Result<Task<T>, LineFault>
     ensures { result ≡ meaning.task_by T.numerals form (words_of rest.now) }
 {
     match form {
@@ -245,7 +245,7 @@ fn with_values<T: TextInteger>(call: Call<()>, rest: &[u8]) -> Result<Call<T>, L
 }
 
 /// The call of an object that a line names, with its values.
-fn call_named<T: TextInteger>(
+pub(crate) fn call_named<T: TextInteger>(
     calls: &[Call<()>],
     name: &[u8],
     rest: &[u8],
@@ -274,7 +274,7 @@ fn task_of<T: TextInteger>(
 }
 
 /// The party of this number; in a text the parties are counted from 1.
-fn party(number: u64) -> Result<usize, LineFault>
+pub(crate) fn party(number: u64) -> Result<usize, LineFault>
     ensures { result ≡ meaning.party_of number }
 {
     match number {

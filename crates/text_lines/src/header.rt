@@ -5,7 +5,7 @@ ghost use Rattle.text_lines.specs.Header as meaning;
 
 use crate::fault::LineFault;
 use crate::integer::TextInteger;
-use crate::lexer::next_word;
+use crate::lexer::{next_word, number_within};
 use crate::objects::{object_named, opened};
 use model_events::event::Object;
 use std::alloc::AllocError;
@@ -42,9 +42,14 @@ impl<T: TextInteger> Header<T> {
         let Some((name, rest)) = next_word(line) else {
             return Err(LineFault::NoObject);
         };
-        match object_named::<T>(name) {
-            None => Err(LineFault::NoObject),
-            Some(object) => opened(object, rest),
-        }
+        let Some(object) = object_named::<T>(name) else {
+            return Err(LineFault::NoObject);
+        };
+        let Some((parties, rest)) = next_word(rest) else {
+            return Err(LineFault::BadLine);
+        };
+        let object = opened(object, rest)?;
+        let parties = number_within(1, MOST_PARTIES, parties)? as usize;
+        Ok(Header { object, parties })
     }
 }

@@ -140,7 +140,8 @@ pub fn nothing(rest: &[u8]) -> Result<(), LineFault>
 
 /// The number that alone is left of a line, in a range.
 pub fn only_number(low: u64, high: u64, rest: &[u8]) -> Result<u64, LineFault>
-    ensures { result ≡ meaning.only_number low high (meaning.words_of rest.now) }
+    ensures number { result ≡ meaning.only_number low high (meaning.words_of rest.now) }
+    ensures within { IfOk result (λ n. n ≤ high) }
 {
     let Some((word, rest)) = next_word(rest) else {
         return Err(LineFault::BadLine);

@@ -16,4 +16,5 @@ pub mod integer;
 pub mod law;
 pub mod lexer;
 pub mod objects;
+pub mod several;
 pub mod value_type;

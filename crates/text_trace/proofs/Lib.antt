@@ -1,5 +1,7 @@
 pub mod Names
+pub mod EachLaws
 pub mod QuietLaws
 pub mod CellLaws
 pub mod RowLaws
 pub mod TraceLaws
+pub mod SeveralLaws

@@ -1,5 +1,5 @@
 -- Rows, one more at a time.
-use Rattle.text_trace.proofs.Names.{nat_tests, eqb-true, eqb-false, ◌≡◌, ℕ, zero, suc, ◌+◌, ◌-◌, ◌^◌, ◌<◌, ◌≤◌, min, Bool, true, false, refl, sym, ◌∙◌, ap, subst, List, [], ◌∷◌, ◌++◌, length, take, get_or, append_assoc, Option, Some, None, arith, take_more, map-append, append-nil, length-map, take-map, bytes_eq, Row, Texts, texts_of, Entry, entry_of, entries, read_same, number_after, alone, longer, joined, added, added_often, folded, trimmed, trimmed_to, cell, columns_of, head, line_text, widened, widened_by, widths_of, row_line, row_lines, table}
+use Rattle.text_trace.proofs.Names.{nat_tests, eqb-true, eqb-false, ◌≡◌, ℕ, zero, suc, ◌+◌, ◌-◌, ◌^◌, ◌<◌, ◌≤◌, min, Bool, true, false, refl, sym, ◌∙◌, ap, subst, List, [], ◌∷◌, ◌++◌, length, map, take, drop, max, ◌&&◌, get_or, append_assoc, string_bytes, at_drop_more, drop_all, texts_same, text_at, widest, word_widths, word_cells, Option, Some, None, arith, take_more, map-append, append-nil, length-map, take-map, bytes_eq, Row, Texts, texts_of, Entry, entry_of, entries, read_same, number_after, alone, longer, joined, added, added_often, folded, trimmed, trimmed_to, cell, columns_of, head, line_text, widened, widened_by, widths_of, row_line, row_lines, table}
 use Rattle.std.proofs.lemmas.List.Concat.{flat_map-append}
 use Rattle.std.proofs.lemmas.Slice.Eq.{bytes_eq-Decides}
 use Rattle.text_trace.specs.declared.table.Line.{Line}
@@ -9,16 +9,30 @@ use Rattle.text_trace.specs.declared.table.Widths.{Widths}
 same_bytes : (bytes : List ℕ) → bytes_eq bytes bytes ≡ true
 same_bytes bytes = (bytes_eq-Decides bytes bytes).1 refl
 
+same_texts : (texts : List (List ℕ)) → texts_same texts texts ≡ true
+same_texts [] = refl
+same_texts (text ∷ texts) = rw (same_bytes text, same_texts texts) refl
+
+false_behind : (a b : Bool) → false ≡ b → false ≡ a && b
+false_behind true b is = is
+false_behind false b is = refl
+
+pub texts_differ : {A : Type 0} (f : A → List ℕ) (xs ys : List A) → (length xs ≡ length ys → ⊥) → false ≡ texts_same (map f xs) (map f ys)
+texts_differ f [] [] other = absurd (other refl)
+texts_differ f [] (y ∷ ys) other = refl
+texts_differ f (x ∷ xs) [] other = refl
+texts_differ f (x ∷ xs) (y ∷ ys) other = false_behind (bytes_eq (f x) (f y)) (texts_same (map f xs) (map f ys)) (texts_differ f xs ys (λ same. other (ap suc same)))
+
 -- Text after text.
 
 both : (x y z a b : List ℕ) → y ≡ x ++ a → z ≡ y ++ b → z ≡ x ++ (a ++ b)
 both x y z a b e f = f ∙ ap (λ (l : List ℕ). l ++ b) e ∙ append_assoc x a b
 
-pub line_printed : (widths : Widths) (line : Line) (t0 t1 t2 t3 t4 t5 t6 t7 t8 t9 : List ℕ) → t1 ≡ t0 ++ cell widths.steps line.steps.now → t2 ≡ t1 ++ cell widths.times line.times.now → t3 ≡ t2 ++ cell widths.line line.line.now →
-    t4 ≡ t3 ++ cell widths.party line.party.now → t5 ≡ t4 ++ cell widths.act line.act.now → t6 ≡ t5 ++ cell widths.words line.words.now → t7 ≡ t6 ++ cell widths.holds line.holds.now →
-    t8 ≡ t7 ++ line.call.now → t9 ≡ t8 ++ (10 ∷ []) → t9 ≡ t0 ++ line_text widths (columns_of line)
+pub line_printed : (widths : Widths) (words : List ℕ) (line : Line) (t0 t1 t2 t3 t4 t5 t6 t7 t8 t9 : List ℕ) → t1 ≡ t0 ++ cell widths.steps line.steps.now → t2 ≡ t1 ++ cell widths.times line.times.now → t3 ≡ t2 ++ cell widths.line line.line.now →
+    t4 ≡ t3 ++ cell widths.party line.party.now → t5 ≡ t4 ++ cell widths.act line.act.now → t6 ≡ t5 ++ word_cells words (map string_bytes line.words.now) → t7 ≡ t6 ++ cell widths.holds line.holds.now →
+    t8 ≡ t7 ++ line.call.now → t9 ≡ t8 ++ (10 ∷ []) → t9 ≡ t0 ++ line_text widths words (columns_of line)
 unfolding line_text
-line_printed widths line t0 t1 t2 t3 t4 t5 t6 t7 t8 t9 e1 e2 e3 e4 e5 e6 e7 e8 e9 =
+line_printed widths words line t0 t1 t2 t3 t4 t5 t6 t7 t8 t9 e1 e2 e3 e4 e5 e6 e7 e8 e9 =
     both t0 t1 t9 _ _ e1 (both t1 t2 t9 _ _ e2 (both t2 t3 t9 _ _ e3 (both t3 t4 t9 _ _ e4 (both t4 t5 t9 _ _ e5 (both t5 t6 t9 _ _ e6 (both t6 t7 t9 _ _ e7 (both t7 t8 t9 _ _ e8 e9)))))))
 
 module _ {T : Type 0} where
@@ -33,7 +47,7 @@ module _ {T : Type 0} where
   entries_end rows mid last is = ap entries is ∙ map-append entry_of mid (last ∷ [])
 
   reads_itself : (cells : Texts T) → read_same cells cells ≡ true
-  reads_itself cells = rw (same_bytes cells.line, same_bytes cells.party, same_bytes cells.act, same_bytes cells.words, same_bytes cells.holds, same_bytes cells.call) refl
+  reads_itself cells = rw (same_bytes cells.line, same_bytes cells.party, same_bytes cells.act, same_texts cells.words, same_bytes cells.holds, same_bytes cells.call) refl
 
   -- a row with so many more steps
   abbrev lengthened : ℕ → Entry T → Texts T → Entry T
@@ -154,17 +168,30 @@ module _ {T : Type 0} where
   widened_more rows i row least old new below item was is =
       is ∙ ap (λ (w : Widths). widened w (entry_of row)) was ∙ sym (ap (λ (l : List (Entry T)). widened_by l least) (entries_more rows i row below item) ∙ widened_end (entries (take i rows)) (entry_of row) least)
 
-  pub printed_more : (rows : List (Row T)) (i : ℕ) (row : Row T) (widths : Widths) (first old new : List ℕ) → i < length rows → row ≡ get_or rows i row → old ≡ first ++ row_lines widths (entries (take i rows)) →
-      new ≡ old ++ row_line widths (entry_of row) → new ≡ first ++ row_lines widths (entries (take (i + 1) rows))
-  printed_more rows i row widths first old new below item was is =
-      let front = row_lines widths (entries (take i rows)) in
-      let more : row_lines widths (entries (take (i + 1) rows)) ≡ front ++ row_line widths (entry_of row) =
-      ap (row_lines widths) (entries_more rows i row below item) ∙ flat_map-append (row_line widths) (entries (take i rows)) (entry_of row ∷ [])
-      ∙ ap (λ (l : List ℕ). front ++ l) (append-nil (row_line widths (entry_of row))) in
-      is ∙ ap (λ (l : List ℕ). l ++ row_line widths (entry_of row)) was ∙ append_assoc first front (row_line widths (entry_of row)) ∙ ap (λ (l : List ℕ). first ++ l) (sym more)
+  pub printed_more : (rows : List (Row T)) (i : ℕ) (row : Row T) (widths : Widths) (words first old new : List ℕ) → i < length rows → row ≡ get_or rows i row → old ≡ first ++ row_lines widths words (entries (take i rows)) →
+      new ≡ old ++ row_line widths words (entry_of row) → new ≡ first ++ row_lines widths words (entries (take (i + 1) rows))
+  printed_more rows i row widths words first old new below item was is =
+      let front = row_lines widths words (entries (take i rows)) in
+      let more : row_lines widths words (entries (take (i + 1) rows)) ≡ front ++ row_line widths words (entry_of row) =
+      ap (row_lines widths words) (entries_more rows i row below item) ∙ flat_map-append (row_line widths words) (entries (take i rows)) (entry_of row ∷ [])
+      ∙ ap (λ (l : List ℕ). front ++ l) (append-nil (row_line widths words (entry_of row))) in
+      is ∙ ap (λ (l : List ℕ). l ++ row_line widths words (entry_of row)) was ∙ append_assoc first front (row_line widths words (entry_of row)) ∙ ap (λ (l : List ℕ). first ++ l) (sym more)
 
-  pub table_printed : (rows : List (Entry T)) (widths : Widths) (none first all : List ℕ) → widths ≡ widths_of rows → none ≡ [] → first ≡ none ++ line_text widths head → all ≡ first ++ row_lines widths rows → all ≡ table rows
+  -- The widths of the words.
+
+  pub widest_more : (rows : List (Row T)) (i k : ℕ) (row : Row T) (width width' all : ℕ) → i < length rows → row ≡ get_or rows i row → widest k (entries (drop i rows)) width ≡ all → width' ≡ max width (length (text_at (texts_of row.cells).words k)) →
+      widest k (entries (drop (i + 1) rows)) width' ≡ all
+  widest_more rows i k row width width' all below item before is =
+      rw is (ap (λ (r : Row T). widest k (entries (drop (i + 1) rows)) (max width (length (text_at (texts_of r.cells).words k)))) item
+      ∙ sym (at_drop_more (λ (l : List (Row T)). widest k (entries l) width) rows i row below) ∙ before)
+
+  pub widest_all : (rows : List (Row T)) (i k width all : ℕ) → length rows ≤ i → widest k (entries (drop i rows)) width ≡ all → width ≡ all
+  widest_all rows i k width all beyond before = ap (λ (l : List (Row T)). widest k (entries l) width) (sym (drop_all i rows beyond)) ∙ before
+
+  pub table_printed : (titles : List (List ℕ)) (rows : List (Entry T)) (widths : Widths) (words none first all : List ℕ) → widths ≡ widths_of rows → words ≡ word_widths rows titles → none ≡ [] → first ≡ none ++ line_text widths words (head titles) →
+      all ≡ first ++ row_lines widths words rows → all ≡ table titles rows
   unfolding table
-  table_printed rows widths none first all is empty head_is rows_are =
-      both none first all (line_text widths head) (row_lines widths rows) head_is rows_are
-      ∙ ap (λ (l : List ℕ). l ++ (line_text widths head ++ row_lines widths rows)) empty ∙ ap (λ (w : Widths). line_text w head ++ row_lines w rows) is
+  table_printed titles rows widths words none first all is words_are empty head_is rows_are =
+      both none first all (line_text widths words (head titles)) (row_lines widths words rows) head_is rows_are
+      ∙ ap (λ (l : List ℕ). l ++ (line_text widths words (head titles) ++ row_lines widths words rows)) empty ∙ ap (λ (w : Widths). line_text w words (head titles) ++ row_lines w words rows) is
+      ∙ ap (λ (w : List ℕ). line_text (widths_of rows) w (head titles) ++ row_lines (widths_of rows) w rows) words_are

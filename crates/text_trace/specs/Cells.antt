@@ -1,5 +1,5 @@
 -- What a step's row says, cell by cell.
-use Rattle.std.specs.Prelude.{ℕ, zero, suc, ◌+◌, true, false, List, [], ◌∷◌, ◌++◌, Option, Some, None, codes, string_bytes}
+use Rattle.std.specs.Prelude.{ℕ, zero, suc, ◌+◌, true, false, List, [], ◌∷◌, ◌++◌, map, Option, Some, None, codes, string_bytes}
 use Rattle.text_trace.specs.Names.{decimal, WaitAction, Act, Event, Object, Wake, Word, HoldKind, Arithmetic, hold_of, table_of, word_in, Header, Numerals, answer_words, further_words, Step}
 use Rattle.model_events.specs.declared.{event.Call.Call, event.Then.Then}
 use Rattle.text_lines.specs.Call.{name_of}
@@ -81,14 +81,19 @@ abbrev pub after_comma : List ℕ → List ℕ
 after_comma [] = []
 after_comma (byte ∷ bytes) = (byte ∷ bytes) ++ codes ", "
 
-abbrev pub with_holder : {T : Type 0} → Object T → List ℕ → ℕ → Option HoldKind → List ℕ
-with_holder o front party None = front
-with_holder o front party (Some kind) = after_comma front ++ holder_words o party kind
+-- an object's name behind a holder; one object alone has none
+abbrev pub behind : List ℕ → List ℕ
+behind [] = []
+behind (byte ∷ bytes) = codes " " ++ (byte ∷ bytes)
 
--- those of the first parties that hold something after the events
-abbrev pub holders : {T : Type 0} → Arithmetic T → Object T → List (Event T) → ℕ → List ℕ
-holders z o past zero = []
-holders z o past (suc party) = with_holder o (holders z o past party) party (hold_of (table_of z o) party past)
+abbrev pub with_holder : {T : Type 0} → Object T → List ℕ → List ℕ → ℕ → Option HoldKind → List ℕ
+with_holder o name front party None = front
+with_holder o name front party (Some kind) = after_comma front ++ (holder_words o party kind ++ behind name)
+
+-- after others, those of the first parties that hold something of an object after its events
+abbrev pub holders : {T : Type 0} → Arithmetic T → Object T → List ℕ → List ℕ → List (Event T) → ℕ → List ℕ
+holders z o name front past zero = front
+holders z o name front past (suc party) = with_holder o name (holders z o name front past party) party (hold_of (table_of z o) party past)
 
 abbrev pub or_dash : List ℕ → List ℕ
 or_dash [] = codes "-"
@@ -96,17 +101,19 @@ or_dash (byte ∷ bytes) = byte ∷ bytes
 
 -- who holds what after the events, or `-` where nobody holds anything
 abbrev pub holds_text : {T : Type 0} → Arithmetic T → Object T → ℕ → List (Event T) → List ℕ
-holds_text z o parties past = or_dash (holders z o past parties)
+holds_text z o parties past = or_dash (holders z o [] [] past parties)
 
--- The cells of a row, but for its number; and for those that show more of it than a line, the step, and what its party holds then.
+-- The cells of a row, but for its number, with the words of each object; and for those that show more of it than a line, the step, its object, and what its
+-- party holds of that then.
 
 pub record Texts (T : Type 0) : Type 0 where
   pub step : Step T
+  pub object : ℕ
   pub hold : Option HoldKind
   pub line : List ℕ
   pub party : List ℕ
   pub act : List ℕ
-  pub words : List ℕ
+  pub words : List (List ℕ)
   pub holds : List ℕ
   pub call : List ℕ
 
@@ -114,11 +121,12 @@ abbrev pub texts_of : {T : Type 0} → Cells T → Texts T
 texts_of cells =
     record {
       step = cells.step;
+      object = cells.object;
       hold = cells.hold;
       line = string_bytes cells.line;
       party = string_bytes cells.party;
       act = string_bytes cells.act;
-      words = string_bytes cells.words;
+      words = map string_bytes cells.words.items;
       holds = string_bytes cells.holds;
       call = string_bytes cells.call;
     }
@@ -128,11 +136,12 @@ abbrev pub cells_at : {T : Type 0} → Arithmetic T → Numerals T → Header T 
 cells_at z numerals header past step =
     record {
       step = step;
+      object = 0;
       hold = hold_of (table_of z header.object) step.event.party past;
       line = decimal step.line;
       party = decimal (step.event.party + 1);
       act = act_words numerals step.event.act;
-      words = words_text z numerals header.object (word_in z header.object past);
+      words = words_text z numerals header.object (word_in z header.object past) ∷ [];
       holds = holds_text z header.object header.parties past;
       call = standing_words numerals step.event.act step.event.then;
     }

@@ -1,7 +1,10 @@
 pub mod Names
+pub mod Each
 pub mod Cells
 pub mod Printing
 pub mod Rows
 pub mod Table
 pub mod Trace
+pub mod Several
+pub mod Whole
 pub mod Run

@@ -1,9 +1,9 @@
 -- What this crate reads of others.
 pub use Rattle.std.specs.Fmt.{decimal}
 pub use Rattle.std.specs.List.{flat_map, take-map}
-pub use Rattle.std.specs.Prelude.{string_bytes, replicate}
+pub use Rattle.std.specs.Prelude.{string_bytes, replicate, codes}
 pub use Rattle.std.specs.Str.{bytes_eq}
-pub use Rattle.model_events.specs.Exports.{Arithmetic, hold_of, PendingCall, Hold, word_after, is_release, hold_taken, with_hold, without, after}
+pub use Rattle.model_events.specs.Exports.{Arithmetic, hold_of, hold_among, call_of, holds_of, PendingCall, Hold, word_after, is_release, hold_taken, with_hold, without, after}
 pub use Rattle.model_events.specs.declared.{WaitAction.WaitAction, event.Act.Act, event.Event.Event, event.Object.Object, event.Wake.Wake, event.Word.Word, hold.HoldKind.HoldKind}
 pub use Rattle.text_lines.specs.Lexer.{lines_of}
 pub use Rattle.text_lines.specs.Numerals.{Numerals}

@@ -52,12 +52,13 @@ told_words numerals (Act.Chosen (Some v)) = numerals.decimal_of v
 told_words numerals (Act.ReadCell v) = numerals.decimal_of v
 told_words numerals act = []
 
--- the step is there, and no text yet
-pub record IsBlank {T : Type 0} (step : Step T) (cells : Cells T) : Type 0 where
+-- the step and its object are there, and no text yet
+pub record IsBlank {T : Type 0} (object : ℕ) (step : Step T) (cells : Cells T) : Type 0 where
   pub step_is : cells.step ≡ step
+  pub object_is : cells.object ≡ object
   pub line : string_bytes cells.line ≡ []
   pub party : string_bytes cells.party ≡ []
   pub act : string_bytes cells.act ≡ []
-  pub words : string_bytes cells.words ≡ []
+  pub words : cells.words.items ≡ []
   pub holds : string_bytes cells.holds ≡ []
   pub call : string_bytes cells.call ≡ []

@@ -16,10 +16,15 @@ entry_of row = record { first = row.first; last = row.last; cells = texts_of row
 abbrev pub entries : {T : Type 0} → List (Row T) → List (Entry T)
 entries rows = map entry_of rows
 
+abbrev pub texts_same : List (List ℕ) → List (List ℕ) → Bool
+texts_same [] [] = true
+texts_same (x ∷ xs) (y ∷ ys) = bytes_eq x y && texts_same xs ys
+texts_same xs ys = false
+
 -- two steps read the same, but for their numbers: line, party, act, words, holds and call
 abbrev pub read_same : {T : Type 0} → Texts T → Texts T → Bool
 read_same a b =
-    bytes_eq a.line b.line && (bytes_eq a.party b.party && (bytes_eq a.act b.act && (bytes_eq a.words b.words && (bytes_eq a.holds b.holds && bytes_eq a.call b.call))))
+    bytes_eq a.line b.line && (bytes_eq a.party b.party && (bytes_eq a.act b.act && (texts_same a.words b.words && (bytes_eq a.holds b.holds && bytes_eq a.call b.call))))
 
 -- steps are counted up to 2^64 - 1
 abbrev pub number_after : ℕ → ℕ

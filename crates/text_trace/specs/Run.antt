@@ -4,7 +4,7 @@ use Rattle.text_trace.specs.Names.{FaultyLine}
 use Rattle.std.specs.Io.KnownBytes.{Appends}
 use Rattle.text_lines.specs.declared.fault.RunFault.{RunFault}
 use Rattle.sync_play.specs.Run.{HasRead}
-use Rattle.text_trace.specs.Trace.{trace_of}
+use Rattle.text_trace.specs.Whole.{trace_of}
 
 -- all that was read is a text with this fault, or none, and its trace was written and nothing else
 pub record HasTraced (left left' written written' : Option (List ℕ)) (fault : Option FaultyLine) : Type 0 where

@@ -1,8 +1,9 @@
--- The table of rows: columns as wide as their widest cells, and two blanks between them.
-use Rattle.std.specs.Prelude.{ℕ, ◌+◌, ◌-◌, ◌==◌, max, if◌then◌else◌, List, [], ◌∷◌, ◌++◌, length, replicate, codes}
+-- The table of rows: columns as wide as their widest cells, and two blanks between them. The words of each object have a column, with a title of its own.
+use Rattle.std.specs.Prelude.{ℕ, ◌+◌, ◌-◌, ◌==◌, max, if◌then◌else◌, List, [], ◌∷◌, ◌++◌, length, map, slice_get, Option, Some, None, replicate, codes, string_bytes}
 use Rattle.text_trace.specs.Names.{decimal, flat_map}
 use Rattle.text_trace.specs.declared.table.Line.{Line}
 use Rattle.text_trace.specs.declared.table.Widths.{Widths}
+use Rattle.text_trace.specs.Each.{for_each}
 use Rattle.text_trace.specs.Rows.{Entry}
 
 -- the number of a row's step, or those of its first and its last
@@ -15,7 +16,7 @@ times_words first last = if first == last then [] else decimal ((last - first) +
 
 -- the titles are the first cells of their columns
 abbrev pub titles : Widths
-titles = record { steps = 4; times = 5; line = 4; party = 5; act = 3; words = 4; holds = 5 }
+titles = record { steps = 4; times = 5; line = 4; party = 5; act = 3; holds = 5 }
 
 abbrev pub widened : {T : Type 0} → Widths → Entry T → Widths
 widened widths row =
@@ -25,7 +26,6 @@ widened widths row =
       line = max widths.line (length row.cells.line);
       party = max widths.party (length row.cells.party);
       act = max widths.act (length row.cells.act);
-      words = max widths.words (length row.cells.words);
       holds = max widths.holds (length row.cells.holds);
     }
 
@@ -36,9 +36,31 @@ widened_by (row ∷ rows) widths = widened_by rows (widened widths row)
 abbrev pub widths_of : {T : Type 0} → List (Entry T) → Widths
 widths_of rows = widened_by rows titles
 
+-- Columns of words.
+
+-- the text of this place; nothing where there is none
+abbrev pub or_empty : Option (List ℕ) → List ℕ
+or_empty None = []
+or_empty (Some text) = text
+
+abbrev pub text_at : List (List ℕ) → ℕ → List ℕ
+text_at texts k = or_empty (slice_get texts k)
+
+abbrev pub widest : {T : Type 0} → ℕ → List (Entry T) → ℕ → ℕ
+widest k [] width = width
+widest k (row ∷ rows) width = widest k rows (max width (length (text_at row.cells.words k)))
+
+-- by their titles
+abbrev pub word_widths : {T : Type 0} → List (Entry T) → List (List ℕ) → List ℕ
+word_widths rows titles = for_each (λ k title. widest k rows (length title) ∷ []) 0 titles
+
 -- a cell that another follows
 abbrev pub cell : ℕ → List ℕ → List ℕ
 cell width text = text ++ (replicate (width - length text) 32 ++ codes "  ")
+
+-- cells of words, each of its width
+abbrev pub word_cells : List ℕ → List (List ℕ) → List ℕ
+word_cells widths texts = for_each (λ k width. cell width (text_at texts k)) 0 widths
 
 -- The cells of a line.
 pub record Columns : Type 0 where
@@ -47,7 +69,7 @@ pub record Columns : Type 0 where
   pub line : List ℕ
   pub party : List ℕ
   pub act : List ℕ
-  pub words : List ℕ
+  pub words : List (List ℕ)
   pub holds : List ℕ
   pub call : List ℕ
 
@@ -59,20 +81,20 @@ columns_of line =
       line = line.line.now;
       party = line.party.now;
       act = line.act.now;
-      words = line.words.now;
+      words = map string_bytes line.words.now;
       holds = line.holds.now;
       call = line.call.now;
     }
 
-abbrev pub head : Columns
-head =
+abbrev pub head : List (List ℕ) → Columns
+head titles =
     record {
       steps = codes "step";
       times = codes "times";
       line = codes "line";
       party = codes "party";
       act = codes "act";
-      words = codes "word";
+      words = titles;
       holds = codes "holds";
       call = codes "call";
     }
@@ -90,17 +112,18 @@ columns_at row =
       call = row.cells.call;
     }
 
-unfoldable pub line_text : Widths → Columns → List ℕ
-line_text widths line =
+unfoldable pub line_text : Widths → List ℕ → Columns → List ℕ
+line_text widths words line =
     cell widths.steps line.steps ++ (cell widths.times line.times ++ (cell widths.line line.line ++ (cell widths.party line.party
-    ++ (cell widths.act line.act ++ (cell widths.words line.words ++ (cell widths.holds line.holds ++ (line.call ++ codes "\n")))))))
+    ++ (cell widths.act line.act ++ (word_cells words line.words ++ (cell widths.holds line.holds ++ (line.call ++ codes "\n")))))))
 
-abbrev pub row_line : {T : Type 0} → Widths → Entry T → List ℕ
-row_line widths row = line_text widths (columns_at row)
+abbrev pub row_line : {T : Type 0} → Widths → List ℕ → Entry T → List ℕ
+row_line widths words row = line_text widths words (columns_at row)
 
-abbrev pub row_lines : {T : Type 0} → Widths → List (Entry T) → List ℕ
-row_lines widths rows = flat_map (row_line widths) rows
+abbrev pub row_lines : {T : Type 0} → Widths → List ℕ → List (Entry T) → List ℕ
+row_lines widths words rows = flat_map (row_line widths words) rows
 
--- the head, and a line for each row
-unfoldable pub table : {T : Type 0} → List (Entry T) → List ℕ
-table rows = line_text (widths_of rows) head ++ row_lines (widths_of rows) rows
+-- the head, with the titles of the words' columns, and a line for each row
+unfoldable pub table : {T : Type 0} → List (List ℕ) → List (Entry T) → List ℕ
+table titles rows =
+    line_text (widths_of rows) (word_widths rows titles) (head titles) ++ row_lines (widths_of rows) (word_widths rows titles) rows

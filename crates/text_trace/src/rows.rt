@@ -1,5 +1,5 @@
 //! The rows of a trace: steps that read the same, one right after the other, are folded into one.
-ghost use Rattle.std.specs.Prelude.{◌≡◌, ◌<◌, OnOk, string_bytes};
+ghost use Rattle.std.specs.Prelude.{◌≡◌, ◌<◌, OnOk, map, string_bytes};
 ghost use Rattle.std.specs.Str.{bytes_eq};
 ghost use Rattle.text_trace.specs.Cells.{texts_of};
 ghost use Rattle.text_trace.specs.Rows as meaning;
@@ -25,6 +25,21 @@ fn same(a: &String, b: &String) -> bool
     is(a.as_bytes(), b.as_bytes())
 }
 
+/// Whether two lists of texts are the same.
+fn all_same(a: &[String], b: &[String]) -> bool
+    ensures { result ≡ meaning.texts_same (map string_bytes a.now) (map string_bytes b.now) }
+{
+    if a.len() != b.len() {
+        return false;
+    }
+    for index in 0..a.len() {
+        if !same(&a[index], &b[index]) {
+            return false;
+        }
+    }
+    true
+}
+
 /// Whether two steps read the same, but for their numbers.
 fn read_same<T>(a: &Cells<T>, b: &Cells<T>) -> bool
     ensures { result ≡ meaning.read_same (texts_of a.now) (texts_of b.now) }
@@ -32,7 +47,7 @@ fn read_same<T>(a: &Cells<T>, b: &Cells<T>) -> bool
     same(&a.line, &b.line)
         && same(&a.party, &b.party)
         && same(&a.act, &b.act)
-        && same(&a.words, &b.words)
+        && all_same(&a.words, &b.words)
         && same(&a.holds, &b.holds)
         && same(&a.call, &b.call)
 }

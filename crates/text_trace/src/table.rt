@@ -1,12 +1,12 @@
 //! Lays rows out in columns that line up.
-ghost use Rattle.std.specs.Prelude.{◌≡◌, ◌++◌, OnOk, IfOk, string_bytes, replicate};
+ghost use Rattle.std.specs.Prelude.{◌≡◌, ◌++◌, OnOk, IfOk, length, map, string_bytes, replicate};
 ghost use Rattle.text_trace.specs.Rows.{entry_of, entries};
 ghost use Rattle.text_trace.specs.Table as meaning;
 
 use crate::rows::Row;
 use std::alloc::{AllocError, Global};
 
-/// How wide each column is, but for the last.
+/// How wide each column is, but for those of words and the last.
 #[derive(Clone, Copy, Debug, PartialEq, Eq)]
 pub struct Widths {
     pub steps: usize,
@@ -14,7 +14,6 @@ pub struct Widths {
     pub line: usize,
     pub party: usize,
     pub act: usize,
-    pub words: usize,
     pub holds: usize,
 }
 
@@ -26,7 +25,7 @@ struct Line<'t> {
     line: &'t str,
     party: &'t str,
     act: &'t str,
-    words: &'t str,
+    words: &'t [String],
     holds: &'t str,
     call: &'t str,
 }
@@ -71,7 +70,6 @@ fn widen<T>(alloc: Global, widths: &mut Widths, row: &Row<T>) -> Result<(), Allo
         line: widths.line.max(cells.line.len()),
         party: widths.party.max(cells.party.len()),
         act: widths.act.max(cells.act.len()),
-        words: widths.words.max(cells.words.len()),
         holds: widths.holds.max(cells.holds.len()),
     };
     Ok(())
@@ -84,7 +82,6 @@ const TITLES: Widths = Widths {
     line: 4,
     party: 5,
     act: 3,
-    words: 4,
     holds: 5,
 };
 
@@ -95,6 +92,42 @@ fn widths_of<T>(alloc: Global, rows: &[Row<T>]) -> Result<Widths, AllocError>
     let mut widths = TITLES;
     for row in rows {
         widen(alloc, &mut widths, row)?;
+    }
+    Ok(widths)
+}
+
+/// The text of this place; nothing where there is none.
+pub fn text_at(texts: &[String], place: usize) -> &str
+    ensures { result.now ≡ meaning.text_at (map string_bytes texts.now) place }
+{
+    match texts.get(place) {
+        Some(text) => text.as_str(),
+        None => "",
+    }
+}
+
+/// The width of a column of words: that of its widest cell, which may be its title.
+fn widest<T>(place: usize, title: &str, rows: &[Row<T>]) -> usize
+    ensures { result ≡ meaning.widest place (entries rows.now) (length title.now) }
+{
+    let mut width = title.len();
+    for row in rows {
+        width = width.max(text_at(&row.cells.words, place).len());
+    }
+    width
+}
+
+/// The width of each column of words.
+fn word_widths<T>(
+    alloc: Global,
+    titles: &[String],
+    rows: &[Row<T>],
+) -> Result<Vec<usize>, AllocError>
+    ensures { IfOk result (λ widths. widths.items ≡ meaning.word_widths (entries rows.now) (map string_bytes titles.now)) }
+{
+    let mut widths = Vec::new(alloc);
+    for place in 0..titles.len() {
+        widths.push(widest(place, titles[place].as_str(), rows))?;
     }
     Ok(widths)
 }
@@ -117,24 +150,44 @@ fn print_cell(out: &mut String, width: usize, text: &str) -> Result<(), AllocErr
     out.push_str("  ")
 }
 
+/// The cells of words.
+fn print_words(out: &mut String, widths: &[usize], texts: &[String]) -> Result<(), AllocError>
+    ensures { OnOk result (string_bytes out.new ≡ string_bytes out.old ++ meaning.word_cells widths.now (map string_bytes texts.now)) }
+{
+    for place in 0..widths.len() {
+        print_cell(out, widths[place], text_at(texts, place))?;
+    }
+    Ok(())
+}
+
 /// Prints a line: its cells, each but the last with what parts it from the next.
-fn print_line(out: &mut String, widths: &Widths, line: &Line<'_>) -> Result<(), AllocError>
-    ensures { OnOk result (string_bytes out.new ≡ string_bytes out.old ++ meaning.line_text widths.now (meaning.columns_of line.now)) }
+fn print_line(
+    out: &mut String,
+    widths: &Widths,
+    words: &[usize],
+    line: &Line<'_>,
+) -> Result<(), AllocError>
+    ensures { OnOk result (string_bytes out.new ≡ string_bytes out.old ++ meaning.line_text widths.now words.now (meaning.columns_of line.now)) }
 {
     print_cell(out, widths.steps, line.steps)?;
     print_cell(out, widths.times, line.times)?;
     print_cell(out, widths.line, line.line)?;
     print_cell(out, widths.party, line.party)?;
     print_cell(out, widths.act, line.act)?;
-    print_cell(out, widths.words, line.words)?;
+    print_words(out, words, line.words)?;
     print_cell(out, widths.holds, line.holds)?;
     out.push_str(line.call)?;
     out.push_str("\n")?;
     Ok(())
 }
 
-fn print_head(out: &mut String, widths: &Widths) -> Result<(), AllocError>
-    ensures { OnOk result (string_bytes out.new ≡ string_bytes out.old ++ meaning.line_text widths.now meaning.head) }
+fn print_head(
+    out: &mut String,
+    widths: &Widths,
+    words: &[usize],
+    titles: &[String],
+) -> Result<(), AllocError>
+    ensures { OnOk result (string_bytes out.new ≡ string_bytes out.old ++ meaning.line_text widths.now words.now (meaning.head (map string_bytes titles.now))) }
 {
     let head = Line {
         steps: "step",
@@ -142,20 +195,21 @@ fn print_head(out: &mut String, widths: &Widths) -> Result<(), AllocError>
         line: "line",
         party: "party",
         act: "act",
-        words: "word",
+        words: titles,
         holds: "holds",
         call: "call",
     };
-    print_line(out, widths, &head)
+    print_line(out, widths, words, &head)
 }
 
 fn print_row<T>(
     alloc: Global,
     out: &mut String,
     widths: &Widths,
+    words: &[usize],
     row: &Row<T>,
 ) -> Result<(), AllocError>
-    ensures { OnOk result (string_bytes out.new ≡ string_bytes out.old ++ meaning.row_line widths.now (entry_of row.now)) }
+    ensures { OnOk result (string_bytes out.new ≡ string_bytes out.old ++ meaning.row_line widths.now words.now (entry_of row.now)) }
 {
     let steps = steps_text(alloc, row)?;
     let times = times_text(alloc, row)?;
@@ -166,34 +220,36 @@ fn print_row<T>(
         line: cells.line.as_str(),
         party: cells.party.as_str(),
         act: cells.act.as_str(),
-        words: cells.words.as_str(),
+        words: &cells.words,
         holds: cells.holds.as_str(),
         call: cells.call.as_str(),
     };
-    print_line(out, widths, &line)
+    print_line(out, widths, words, &line)
 }
 
 fn print_rows<T>(
     alloc: Global,
     out: &mut String,
     widths: &Widths,
+    words: &[usize],
     rows: &[Row<T>],
 ) -> Result<(), AllocError>
-    ensures { OnOk result (string_bytes out.new ≡ string_bytes out.old ++ meaning.row_lines widths.now (entries rows.now)) }
+    ensures { OnOk result (string_bytes out.new ≡ string_bytes out.old ++ meaning.row_lines widths.now words.now (entries rows.now)) }
 {
     for row in rows {
-        print_row(alloc, out, widths, row)?;
+        print_row(alloc, out, widths, words, row)?;
     }
     Ok(())
 }
 
-/// The table of the rows: the head, and a line for each.
-pub fn table<T>(alloc: Global, rows: &[Row<T>]) -> Result<String, AllocError>
-    ensures { IfOk result (λ text. string_bytes text ≡ meaning.table (entries rows.now)) }
+/// The table of the rows: the head, with the titles of the words' columns, and a line for each.
+pub fn table<T>(alloc: Global, titles: &[String], rows: &[Row<T>]) -> Result<String, AllocError>
+    ensures { IfOk result (λ text. string_bytes text ≡ meaning.table (map string_bytes titles.now) (entries rows.now)) }
 {
     let widths = widths_of(alloc, rows)?;
+    let words = word_widths(alloc, titles, rows)?;
     let mut out = String::new(alloc);
-    print_head(&mut out, &widths)?;
-    print_rows(alloc, &mut out, &widths, rows)?;
+    print_head(&mut out, &widths, &words, titles)?;
+    print_rows(alloc, &mut out, &widths, &words, rows)?;
     Ok(out)
 }

@@ -1,13 +1,16 @@
 //! Traces a schedule text.
-ghost use Rattle.std.specs.Prelude.{◌≡◌, ◌+◌, ◌^◌, ◌<◌, List, length, IfOk};
+ghost use Rattle.std.specs.Prelude.{◌≡◌, ◌+◌, ◌^◌, ◌<◌, List, length, map, IfOk, string_bytes};
 ghost use Rattle.sync_steps.specs.Machine.{StandsAt};
 ghost use Rattle.model_events.specs.declared.event.Event.{Event as AnEvent};
 ghost use Rattle.text_lines.specs.Lexer.{lines_of};
 ghost use Rattle.sync_play.specs.Walk.{rest_walk};
+ghost use Rattle.text_trace.specs.Several as several;
 ghost use Rattle.text_trace.specs.Trace as meaning;
+ghost use Rattle.text_trace.specs.Whole.{trace_of};
 
 use crate::cells::cells_of;
 use crate::rows::{Row, add, trim};
+use crate::several;
 use crate::table::table;
 use std::alloc::{AllocError, Global};
 use sync_play::walk::{Rest, next_stride, open};
@@ -16,10 +19,12 @@ use text_lines::by_value_type;
 use text_lines::fault::FaultyLine;
 use text_lines::header::Header;
 use text_lines::integer::TextInteger;
+use text_room::text::begins_several;
 
-/// The rows of a run, and the line with a fault that ended it early, if there is one.
+/// The rows of a run, the titles of the words' columns, and the line with a fault that ended it early, if there is one.
 #[derive(Drop)]
 pub struct Rows<T> {
+    pub titles: Vec<String>,
     pub rows: Vec<Row<T>>,
     pub fault: Option<FaultyLine>,
 }
@@ -60,15 +65,26 @@ pub fn add_steps<T: TextInteger>(
     }
 }
 
-/// The rows of a text.
-fn rows_of<T: TextInteger>(alloc: Global, text: &[u8]) -> Result<Rows<T>, AllocError>
-    ensures { IfOk result (λ found. meaning.AreRowsOf T.arithmetic T.numerals (lines_of text.now) found) }
+/// The title of the words of one object.
+pub fn one_title(alloc: Global) -> Result<Vec<String>, AllocError>
+    ensures { IfOk result (λ titles. map string_bytes titles.items ≡ meaning.one_title) }
 {
+    let mut titles = Vec::new(alloc);
+    titles.push(String::from_str(alloc, "word")?)?;
+    Ok(titles)
+}
+
+/// The rows of a text of one object.
+fn rows_of<T: TextInteger>(alloc: Global, text: &[u8]) -> Result<Rows<T>, AllocError>
+    ensures { IfOk result (λ found. meaning.rows_told found ≡ meaning.rows_of T.arithmetic T.numerals (lines_of text.now)) }
+{
+    let titles = one_title(alloc)?;
     let mut rows = Vec::new(alloc);
     let (header, mut rest) = match open::<T>(text) {
         Ok(opened) => opened,
         Err(fault) => {
             return Ok(Rows {
+                titles,
                 rows,
                 fault: Some(fault),
             });
@@ -76,26 +92,49 @@ fn rows_of<T: TextInteger>(alloc: Global, text: &[u8]) -> Result<Rows<T>, AllocE
     };
     let mut machine = Machine::new(alloc, header.object, header.parties)?;
     let fault = add_steps(alloc, header, &mut machine, &mut rest, None, &mut rows)?;
-    Ok(Rows { rows, fault })
+    Ok(Rows {
+        titles,
+        rows,
+        fault,
+    })
 }
 
-/// The trace of a text whose values are of this type.
-fn trace_typed<T: TextInteger>(alloc: Global, text: &[u8]) -> Result<Trace, AllocError>
-    ensures { IfOk result (λ trace. meaning.written_of trace ≡ meaning.typed_trace T.arithmetic T.numerals (lines_of text.now)) }
+/// What is written of these rows.
+fn written<T: TextInteger>(alloc: Global, found: Rows<T>) -> Result<Trace, AllocError>
+    ensures { IfOk result (λ trace. meaning.written_of trace ≡ meaning.written (meaning.rows_told found)) }
 {
-    let found = rows_of::<T>(alloc, text)?;
-    let out = table(alloc, &found.rows)?;
+    let out = table(alloc, &found.titles, &found.rows)?;
     Ok(Trace {
         bytes: out.into_bytes(),
         fault: found.fault,
     })
 }
 
-/// The trace of a text: the head and a line for each row, up to its end or its first fault.
+/// The trace of a text of one object whose values are of this type.
+fn trace_typed<T: TextInteger>(alloc: Global, text: &[u8]) -> Result<Trace, AllocError>
+    ensures { IfOk result (λ trace. meaning.written_of trace ≡ meaning.typed_trace T.arithmetic T.numerals (lines_of text.now)) }
+{
+    let found = rows_of::<T>(alloc, text)?;
+    written(alloc, found)
+}
+
+/// The trace of a text of several objects whose values are of this type.
+fn trace_several<T: TextInteger>(alloc: Global, text: &[u8]) -> Result<Trace, AllocError>
+    ensures { IfOk result (λ trace. meaning.written_of trace ≡ meaning.written (several.rows_of T.arithmetic T.numerals (lines_of text.now))) }
+{
+    let found = several::rows_of::<T>(alloc, text)?;
+    written(alloc, found)
+}
+
+/// The trace of a text of one object or of several: the head and a line for each row, up to its end or its first fault.
 ///
 /// Its steps are let go as they are folded into rows, so it takes memory for the rows and the output alone.
 pub fn trace_text(alloc: Global, text: &[u8]) -> Result<Trace, AllocError>
-    ensures { IfOk result (λ trace. meaning.written_of trace ≡ meaning.trace_of text.now) }
+    ensures { IfOk result (λ trace. meaning.written_of trace ≡ trace_of text.now) }
 {
-    by_value_type!(text, trace_typed(alloc, text))
+    if begins_several(text) {
+        by_value_type!(text, trace_several(alloc, text))
+    } else {
+        by_value_type!(text, trace_typed(alloc, text))
+    }
 }

@@ -1,4 +1,8 @@
 //! A counting semaphore.
 
-pub use running_semaphore::{SemPass, Semaphore, permits_are_of_a_run};
-pub use running_tallies::Permits;
+use crate::OneWord;
+pub use running_semaphore::{Permits, SemPass, permits_are_of_a_run};
+use std::alloc::Global;
+
+/// A counting semaphore.
+pub type Semaphore<A = Global> = running_semaphore::Semaphore<A, OneWord>;

@@ -2,7 +2,7 @@
 use super::linger;
 use model_events::WaitAction;
 use running_passes::WaitResult;
-use sleeping_rw_value::{RwValueHandle, SleepingRwValue};
+use sleeping_rw_value::{Handle, RwValueHandle, SleepingRwValue};
 use std::alloc::AllocError;
 use std::sync::Wait;
 use std::test::Fail;
@@ -146,5 +146,103 @@ fn joined_handles_are_one_again(rt: HostRuntime) -> Result<(), Fail> {
         .with_read(&rt, &mut pass, |_, _| WaitAction::Continue, |_| (), value);
     assert!(rt; matches!(found, WaitResult::Success(3)));
     assert_eq!(rt; number.into_inner(pass), 3);
+    Ok(())
+}
+
+/// Writes a pair of equal numbers 2500 times, and tells how often it read one that differs; by guards.
+fn write_and_read_by_guards<R: Wait>(rt: &R, mut handle: RwValueHandle<'_, (u64, u64)>) -> u64 {
+    let mut torn = 0u64;
+    for _ in 0..2500u64 {
+        add_one_to_both(&mut handle.write(rt));
+        if is_torn(rt, &mut handle) {
+            torn = torn.wrapping_add(1);
+        }
+    }
+    torn
+}
+
+fn add_one_to_both(pair: &mut (u64, u64)) {
+    pair.0 = pair.0.wrapping_add(1);
+    pair.1 = pair.1.wrapping_add(1);
+}
+
+fn is_torn<R: Wait>(rt: &R, handle: &mut RwValueHandle<'_, (u64, u64)>) -> bool {
+    let pair = handle.read(rt);
+    if pair.0 == 0 {
+        return true;
+    }
+    pair.0 != pair.1
+}
+
+#[test]
+fn nobody_of_four_reads_half_a_write_under_guards(rt: HostRuntime) -> Result<(), Fail> {
+    let Ok((pair, pass)) = SleepingRwValue::new(rt.alloc(), (0u64, 0u64)) else {
+        return Err(AllocError)?;
+    };
+    let (mut last, rest) = pair.handle(pass).split();
+    let handles = rest.split_into(rt.alloc(), 4)?;
+    let torn = thread::map_vec(
+        &rt,
+        handles,
+        &|handle| write_and_read_by_guards(&rt, handle),
+    )?;
+    assert!(rt; torn.as_slice() == [0, 0, 0, 0].as_slice());
+    assert_eq!(rt; last.read(&rt).0, 10000);
+    Ok(())
+}
+
+#[test]
+fn guards_refuse_others_until_their_scopes_end(rt: HostRuntime) -> Result<(), Fail> {
+    let Ok((count, pass)) = SleepingRwValue::new(rt.alloc(), 0u64) else {
+        return Err(AllocError)?;
+    };
+    let (mut one, mut two) = count.handle(pass).split();
+    let passed = Some(Instant::now(&rt)?);
+    for _ in 0..2u64 {
+        let mut number = one.write(&rt);
+        *number = 5;
+        assert!(rt; two.try_read(&rt).is_none());
+        assert!(rt; two.try_write(&rt).is_none());
+        assert!(rt; two.read_until(&rt, passed).is_none());
+        if two.write_until(&rt, passed).is_none() {
+            break;
+        }
+    }
+    for _ in 0..2u64 {
+        let number = one.read(&rt);
+        assert_eq!(rt; *number, 5);
+        assert!(rt; two.try_read(&rt).is_some_and(|number| *number == 5));
+        assert!(rt; two.read_until(&rt, passed).is_some());
+        if two.try_write(&rt).is_none() {
+            break;
+        }
+    }
+    assert!(rt; two.try_write(&rt).is_some());
+    assert!(rt; two.write_until(&rt, None).is_some());
+    Ok(())
+}
+
+#[test]
+fn guards_that_end_wake_who_sleeps(rt: HostRuntime) -> Result<(), Fail> {
+    let Ok((count, pass)) = SleepingRwValue::new(rt.alloc(), 0u64) else {
+        return Err(AllocError)?;
+    };
+    let (mut one, mut two) = count.handle(pass).split();
+    let inside = test_signal::Signal::new();
+    let ((), (came, found)) = thread::join(
+        &rt,
+        || {
+            let mut number = one.write(&rt);
+            inside.give();
+            linger();
+            *number = 7;
+        },
+        || {
+            let came = inside.awaited();
+            (came, *two.read(&rt))
+        },
+    );
+    assert!(rt; came);
+    assert_eq!(rt; found, 7);
     Ok(())
 }

@@ -5,7 +5,7 @@ ghost use Rattle.running_passes.specs.Passes.{IsSamePass, part_of, view};
 ghost use Rattle.running_passes.specs.Views.{first_view};
 ghost use Rattle.running_model.specs.Passes.{played};
 ghost use Rattle.running_model.specs.Slots.{no_parties};
-ghost use Rattle.running_tallies.specs.Semaphore.{first_permits};
+ghost use Rattle.running_semaphore.specs.Semaphore.{first_permits};
 ghost use Rattle.running_semaphore.specs.SemaphoreShown.{IsSemPass, HasCounted, given_of, taken_of};
 
 use iceoryx2_pal_concurrency_sync::strategy::semaphore::{SemPass, Semaphore};

@@ -369,16 +369,7 @@ fn wait_twice<R: Wait>(
     if first.0.is_none() {
         let _ = meeting.meet() && meeting.meet();
     }
-    let second = wait_once(
-        rt,
-        cond,
-        pass,
-        mutex,
-        mtx_pass,
-        wake_nobody,
-        give_up,
-        give_up,
-    );
+    let second = wait_once(rt, cond, pass, mutex, mtx_pass, |_| (), give_up, give_up);
     (first, second)
 }
 

@@ -44,7 +44,7 @@ fn sleep<R: Wait>(
         &mut pass,
         mutex,
         &mut mtx_pass,
-        wake_nobody,
+        |_| (),
         |_, _| {
             sleeps.give();
             thread::yield_now();

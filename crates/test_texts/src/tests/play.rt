@@ -4,6 +4,7 @@ mod growths;
 mod limits;
 mod long;
 mod player;
+mod rooms;
 mod streams;
 
 use std::alloc::{AllocError, Global};

@@ -39,7 +39,7 @@ pub struct Plays;
 
 impl Program for Plays {
     fn run<R: Read, W: Write>(alloc: Global, reader: &mut R, writer: &mut W) -> Ended {
-        match sync_play::run(alloc, reader, writer) {
+        match text_room::run(alloc, reader, writer) {
             Ok(()) => Ended::Whole,
             Err(fault) => Ended::of(fault),
         }
@@ -75,7 +75,7 @@ pub struct Explores;
 
 impl Program for Explores {
     fn run<R: Read, W: Write>(alloc: Global, reader: &mut R, writer: &mut W) -> Ended {
-        match explore_client::run::run(alloc, reader, writer, &mut Unwatched) {
+        match explore_client::run::run(alloc, reader, writer, false, &mut Unwatched) {
             Ok(_) => Ended::Whole,
             Err(unanswered) => match unanswered.fault {
                 ExploreFault::Read => Ended::Reading,

@@ -2,7 +2,7 @@ use Rattle.draw_text.proofs.Names.{subst, ℕ, List, IsPicture, titles_told, has
 use Rattle.draw_text.proofs.picture.draw_typed.Goals as goal
 
 pub returns-clause-drawn : goal.returns-clause-drawn
-returns-clause-drawn g c = subst (λ (titles : List (List ℕ)). IsPicture titles c.in_ok-picture.picture.items) (titles_told _ _ c.in_ok-story.ensures.told) c.in_ok-picture.ensures
+returns-clause-drawn g c = subst (λ (titles : List (List ℕ)). IsPicture titles c.in_ok-picture.picture.items) (titles_told _ _ _ c.in_ok-story.ensures.told) c.in_ok-picture.ensures
 
 pub returns-clause-played : goal.returns-clause-played
 returns-clause-played g c = has_output _ _ c.in_ok-story.ensures.last

@@ -1,25 +1,9 @@
-use Rattle.running_model.proofs.Names.{◌∙◌, asked_later}
-use Rattle.running_model.proofs.Attempts.{still_so, told_later}
+use Rattle.running_model.proofs.Names.{◌≡◌, ◌∙◌, refl, subst}
+use Rattle.running_model.proofs.Questions.{aborted_by, asked_by}
 use Rattle.running_model.proofs.tries.try_again.Goals as goal
 
-pub ask_and_try-requires-clause-own : goal.ask_and_try-requires-clause-own
-ask_and_try-requires-clause-own g c = c.in-Err.ensures.refused.stayed.same.0 ∙ c.requires.own
+pub returns-clause-aborted : goal.returns-clause-aborted
+returns-clause-aborted g c = λ no. aborted_by _ _ _ g.W.Fn c.args.wait (λ f. f ≡ c.args.wait) (λ f a r after good called. (g.met.W.Fn.1.step_stays _ _ _ _ called ∙ good, record { met = subst (λ x. g.W.Fn.post x a r) good ((g.met.W.FnMut.1.post_iff _ _ _).1 (after, called)) })) _ _ _ _ _ _ _ c.try_again_by-granted.ensures.asked refl no
 
-pub ask_and_try-requires-clause-refused : goal.ask_and_try-requires-clause-refused
-ask_and_try-requires-clause-refused g c = c.in-Err.ensures.refused.looked.refusing.1
-
-pub ask_and_try-requires-clause-at : goal.ask_and_try-requires-clause-at
-ask_and_try-requires-clause-at g c = (c.requires.at.0, c.in-Err.ensures.stands c.requires.at.0 c.requires.at.1)
-
-pub returns-in-Err-clause-told : goal.returns-in-Err-clause-told
-returns-in-Err-clause-told g c =
-    told_later g.B.Attempt.moves g.B.Attempt.refuses 10000 c.args.turn.pass.now c.in-Err.next.pass.now c.ask_and_try.result.1.pass.now c.ask_and_try.result.0
-    c.in-Err.ensures.refused.stayed c.in-Err.ensures.refused.looked.more c.ask_and_try.ensures.told
-
-pub returns-in-Err-clause-asked : goal.returns-in-Err-clause-asked
-returns-in-Err-clause-asked g c = λ no looks_once. asked_later _ _ _ 10000 c.args.turn.pass.now c.in-Err.next.pass.now c.ask_and_try.result.1.pass.now
-    (c.in-Err.ensures.once looks_once)
-    (c.ask_and_try.ensures.asked no (still_so g.B.Attempt.looks_once c.args.turn.pass.now c.in-Err.next.pass.now c.in-Err.ensures.refused.stayed looks_once))
-
-pub returns-in-Err-clause-over : goal.returns-in-Err-clause-over
-returns-in-Err-clause-over g c = λ done refused. c.ask_and_try.ensures.over done (c.in-Err.ensures.stands done refused)
+pub returns-clause-asked : goal.returns-clause-asked
+returns-clause-asked g c = λ no once. asked_by _ _ _ g.W.Fn c.args.wait (λ f. f ≡ c.args.wait) (λ f a r after good called. (g.met.W.Fn.1.step_stays _ _ _ _ called ∙ good, record { met = subst (λ x. g.W.Fn.post x a r) good ((g.met.W.FnMut.1.post_iff _ _ _).1 (after, called)) })) _ _ _ _ _ _ _ c.try_again_by-granted.ensures.asked refl no once

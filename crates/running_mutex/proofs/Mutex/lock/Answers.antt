@@ -46,11 +46,11 @@ returns-then-free g c = (
   },
 )
 
-pub invariant_of-result-then-granted-clause-on : goal.invariant_of-result-then-granted-clause-on
-invariant_of-result-then-granted-clause-on g c = subst (λ q. holds_of q ≡ 1) (sym (c.pass-2-1.given.1 (sym c.first-free.ensures.same_borrow ∙ sym c.try_again-granted.ensures.same_borrow ∙ sym c.end-pass-2.ensures.same_borrow) ∙ c.end-pass-2.ensures.still)) (MatchBool-at_true _ _ c.if-granted.true (ends _ _ _ c.args.pass.now c.first-free.result.1.pass.now c.try_again-granted.result.1.pass.now (MatchBool-at_false _ _ c.if-free.false c.first-free.ensures.locked) c.try_again-granted.ensures.told (λ no. c.try_again-granted.ensures.asked no tt))).counts.on
+pub invariant_of-pass-clause-on : goal.invariant_of-pass-clause-on
+invariant_of-pass-clause-on g c = subst (λ q. holds_of q ≡ 1) (sym (c.pass-2-1.given.1 (sym c.first-free.ensures.same_borrow ∙ sym c.try_again-granted.ensures.same_borrow ∙ sym c.end-pass-2.ensures.same_borrow) ∙ c.end-pass-2.ensures.still)) (MatchBool-at_true _ _ c.if-granted.true (ends _ _ _ c.args.pass.now c.first-free.result.1.pass.now c.try_again-granted.result.1.pass.now (MatchBool-at_false _ _ c.if-free.false c.first-free.ensures.locked) c.try_again-granted.ensures.told (λ no. c.try_again-granted.ensures.asked no tt))).counts.on
 
-pub invariant_of-result-then-granted-clause-has : goal.invariant_of-result-then-granted-clause-has
-invariant_of-result-then-granted-clause-has g c = subst (λ q. HasMutex (parties_of q)) (sym (c.pass-2-1.given.1 (sym c.first-free.ensures.same_borrow ∙ sym c.try_again-granted.ensures.same_borrow ∙ sym c.end-pass-2.ensures.same_borrow) ∙ c.end-pass-2.ensures.still)) (granted_has Call.Lock (parties_of c.args.pass.now) _ (MatchBool-at_true _ _ c.if-granted.true (c.try_again-granted.ensures.over (all_of (parties_of c.args.pass.now)) (MatchBool-at_false _ _ c.if-free.false (lock_first _ _ _ c.first-free.ensures.tried)))))
+pub invariant_of-pass-clause-has : goal.invariant_of-pass-clause-has
+invariant_of-pass-clause-has g c = subst (λ q. HasMutex (parties_of q)) (sym (c.pass-2-1.given.1 (sym c.first-free.ensures.same_borrow ∙ sym c.try_again-granted.ensures.same_borrow ∙ sym c.end-pass-2.ensures.same_borrow) ∙ c.end-pass-2.ensures.still)) (granted_has Call.Lock (parties_of c.args.pass.now) _ (MatchBool-at_true _ _ c.if-granted.true (c.try_again-granted.ensures.over (all_of (parties_of c.args.pass.now)) (MatchBool-at_false _ _ c.if-free.false (lock_first _ _ _ c.first-free.ensures.tried)))))
 
 pub returns-then-granted : goal.returns-then-granted
 returns-then-granted g c = (
@@ -65,8 +65,8 @@ returns-then-granted g c = (
   },
 )
 
-pub returns : goal.returns
-returns g c =
+pub returns-else-granted : goal.returns-else-granted
+returns-else-granted g c =
     let gave_up = subst (λ q. HasGivenUp g.W.Fn c.args.wait IsLocked c.args.pass.now q) (sym (c.pass-2-1.given.1 (sym c.first-free.ensures.same_borrow ∙ sym c.try_again-granted.ensures.same_borrow ∙ sym c.end-pass-2.ensures.same_borrow) ∙ c.end-pass-2.ensures.still)) (MatchBool-at_false _ _ c.if-granted.false (ends _ _ _ c.args.pass.now c.first-free.result.1.pass.now c.try_again-granted.result.1.pass.now (MatchBool-at_false _ _ c.if-free.false c.first-free.ensures.locked) c.try_again-granted.ensures.told (λ no. c.try_again-granted.ensures.asked no tt))) in
     let played = subst (λ q. HasPlayed Call.Lock Answer.Interrupted None c.args.pass.now q) (sym (c.pass-2-1.given.1 (sym c.first-free.ensures.same_borrow ∙ sym c.try_again-granted.ensures.same_borrow ∙ sym c.end-pass-2.ensures.same_borrow) ∙ c.end-pass-2.ensures.still)) (MatchBool-at_false _ _ c.if-granted.false (c.try_again-granted.ensures.over (all_of (parties_of c.args.pass.now)) (MatchBool-at_false _ _ c.if-free.false (lock_first _ _ _ c.first-free.ensures.tried)))) in (
       (refl, λ _. tt, (gave_up, played)),

@@ -1,8 +1,8 @@
 use Rattle.running_rw_reader.proofs.Names.{refl}
 use Rattle.running_rw_reader.proofs.RwLockReaderPreference.read_lock.Goals as goal
 
-pub returns : goal.returns
-returns g c = (
+pub returns-else-wait_to_read : goal.returns-else-wait_to_read
+returns-else-wait_to_read g c = (
   (refl, λ _. tt, (c.if-wait_to_read.ensures.entered, λ whole. c.wait_to_read.ensures.asked whole c.if-wait_to_read.false, c.if-wait_to_read.ensures.played)),
   record {
     refused = tt;

@@ -1,8 +1,8 @@
 use Rattle.running_rw_reader.proofs.Names.{refl}
 use Rattle.running_rw_reader.proofs.RwLockReaderPreference.write_lock.Goals as goal
 
-pub returns : goal.returns
-returns g c = (
+pub returns-else-wait_to_write : goal.returns-else-wait_to_write
+returns-else-wait_to_write g c = (
   (refl, λ _. tt, (c.if-wait_to_write.ensures.entered, c.if-wait_to_write.ensures.played)),
   record {
     refused = tt;

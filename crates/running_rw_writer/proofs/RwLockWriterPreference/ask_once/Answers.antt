@@ -3,7 +3,7 @@ use Rattle.running_passes.proofs.Attempts.{told_of_its_kind}
 use Rattle.running_rw_writer.proofs.RwLockWriterPreference.ask_once.Goals as goal
 
 pub ask-requires-clause-stands : goal.ask-requires-clause-stands
-ask-requires-clause-stands g c = let w = c.requires.at in stands_to_wait _ c.look_last-count.result.0 w.0 _ c.counter.ensures.index (stands c.look_last-count.result.0 c.look_last-count.result.1 (spun 10000) w.0 _ (sym c.is_blocked.ensures ∙ c.if-is_blocked.true) (c.look_last-count.ensures.looked (spun 10000) w.0 w.1))
+ask-requires-clause-stands g c = let w = c.requires.at in stands_to_wait _ c.look_last-count.result.0 w.0 _ c.requires.counter.1 (stands c.look_last-count.result.0 c.look_last-count.result.1 (spun 10000) w.0 _ (sym c.is_blocked.ensures ∙ c.if-is_blocked.true) (c.look_last-count.ensures.looked (spun 10000) w.0 w.1))
 
 pub enter_or_mark-requires-clause-at : goal.enter_or_mark-requires-clause-at
 enter_or_mark-requires-clause-at g c = let w = c.requires.at in (

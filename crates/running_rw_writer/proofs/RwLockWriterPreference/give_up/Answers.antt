@@ -22,7 +22,7 @@ pub returns-then-taken-clause-gave_up : goal.returns-then-taken-clause-gave_up
 returns-then-taken-clause-gave_up g c = subst (λ (q : Pass PlayedRwWriter). HasGivenUpWriting 0 c.args.turn.pass.now q) (sym c.wake_both.ensures.still) (gave_up_still 0 _ _ _ c.take_mark_away-taken.ensures.gave_up c.count_up-counted.ensures.same c.count_up-counted.ensures.unchanged)
 
 pub returns-then-taken-clause-played : goal.returns-then-taken-clause-played
-returns-then-taken-clause-played g c = λ done at. inr (subst (λ (q : Pass PlayedRwWriter). WriteGoes (After.At (RwWriterPlace.WakeOne Leaver.GivenUp)) done (parties_of q)) (sym c.wake_both.ensures.still) (c.count_up-counted.ensures.counted Call.WriteLock Leaver.GivenUp done (MatchBool-at_true _ _ c.if-taken.true (c.take_mark_away-taken.ensures.played done at))))
+returns-then-taken-clause-played g c = λ done at. inr ((subst (λ (q : Pass PlayedRwWriter). WriteGoes (After.At (RwWriterPlace.WakeOne Leaver.GivenUp)) done (parties_of q)) (sym c.wake_both.ensures.still) (c.count_up-counted.ensures.counted Call.WriteLock Leaver.GivenUp done (MatchBool-at_true _ _ c.if-taken.true (c.take_mark_away-taken.ensures.played done at)))), c.wake_both.ensures.woke)
 
 pub returns-clause-played : goal.returns-clause-played
 returns-clause-played g c = λ done at. inl (subst (λ (q : Pass PlayedRwWriter). WriteGoes (After.Ends Answer.Interrupted) done (parties_of q)) (sym c.end.ensures.still) (MatchBool-at_false _ _ c.if-taken.false (c.take_mark_away-taken.ensures.played done at)))

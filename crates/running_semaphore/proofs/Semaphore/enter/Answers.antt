@@ -37,4 +37,7 @@ returns-else-took-clause-played g c = subst (λ q. MatchBool c.try_again-granted
 
 pub returns-else-took-clause-asked : goal.returns-else-took-clause-asked
 returns-else-took-clause-asked g c = λ whole no. subst (λ q. HasAsked g.W.Fn c.args.wait.now IsEmpty 10001 c.args.pass.now q) (sym (c.pass-in-Err-1.given.1 (sym c.in-Err.ensures.same_borrow_too ∙ sym c.take_from-took.ensures.same_borrow ∙ sym c.try_again-granted.ensures.same_borrow ∙ sym c.end-pass-in-Err.ensures.same_borrow) ∙ c.end-pass-in-Err.ensures.still)) (asked_after _ _ IsEmpty 1 10000 c.args.pass.now c.take_from-took.result.1.pass.now c.try_again-granted.result.1.pass.now (ap (λ v. v.sights.count) ((MatchBool-at_false _ _ c.if-took.false (c.take_from-took.ensures.takes c.args.pass.now c.in-Err.ensures.looked)).once whole).1)
-    (c.try_again-granted.ensures.asked no (subst IsWhole (sym (MatchBool-at_false _ _ c.if-took.false (c.take_from-took.ensures.takes c.args.pass.now c.in-Err.ensures.looked)).refused.stayed.part) whole)))
+    (let a = c.try_again-granted.ensures.asked no (subst IsWhole (sym (MatchBool-at_false _ _ c.if-took.false (c.take_from-took.ensures.takes c.args.pass.now c.in-Err.ensures.looked)).refused.stayed.part) whole) in record { more = a.more; looked = a.looked; some = a.some; again = λ often. let m = a.again often in record { word = m.word; seen = m.seen; named = m.named; says = record { met = m.says.met } } }))
+
+pub returns-else-took-clause-aborted : goal.returns-else-took-clause-aborted
+returns-else-took-clause-aborted g c = λ no. let m = c.try_again-granted.ensures.aborted no in record { word = m.word; seen = m.seen; named = m.named; says = record { met = m.says.met } }

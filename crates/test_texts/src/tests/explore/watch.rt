@@ -1,7 +1,7 @@
 //! What no question can say: what a watch of the search is told. Questions with their answers stand in `texts/sync-explore`.
 
 use explore_client::run::run;
-use explore_search::watch::Watch;
+use explore_search::watch::{Reached, Watch};
 use explore_text::report::Verdict;
 use std::test::Fail;
 
@@ -14,10 +14,10 @@ struct Heard {
 }
 
 impl Watch for Heard {
-    fn looked(&mut self, states: usize, waiting: usize) {
+    fn looked(&mut self, reached: Reached) {
         self.times = self.times.saturating_add(1);
-        self.states = states;
-        self.waiting = waiting;
+        self.states = reached.states;
+        self.waiting = reached.waiting;
     }
 }
 
@@ -31,7 +31,7 @@ fn a_watch_is_told_every_4096_states(rt: HostRuntime) -> Result<(), Fail> {
         states: 0,
         waiting: 0,
     };
-    let ended = run(rt.alloc(), &mut reader, &mut written, &mut heard);
+    let ended = run(rt.alloc(), &mut reader, &mut written, false, &mut heard);
     let is_wanted = match ended {
         Ok(answered) => answered.verdict == Verdict::AsWanted,
         Err(_) => false,

@@ -2,9 +2,8 @@
 ghost use Rattle.job_queue.specs.QueueShown.{IsQueuePass};
 
 use super::step::Step;
-use job_queue::{JobQueue, QueuePass};
+use job_queue::{JobQueue, QueuePass, QueueWord};
 use model_events::WaitAction;
-use running_tallies::WaitWord;
 use std::alloc::{AllocError, Global};
 use std::sync::Wait;
 use test_signal::Gathering;
@@ -32,7 +31,7 @@ impl<'q> Party<'q> {
 fn is_answered<R: Wait>(rt: &R, party: &mut Party<'_>, step: &Step, gathering: &Gathering) -> bool {
     let queue = party.queue;
     let pass = &mut party.pass;
-    let wake_one = |word: &WaitWord| gathering.wake_one(word.load());
+    let wake_one = |word: &QueueWord| gathering.wake_one(word.load());
     match step {
         Step::Put(job, answer) => queue.put(rt, pass, *job, wake_one) == *answer,
         Step::Take(answer) => {

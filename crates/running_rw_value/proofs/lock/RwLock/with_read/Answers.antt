@@ -1,22 +1,29 @@
 use Rattle.std.proofs.Common.{◌≡◌, ◌∙◌, sym, subst}
-use Rattle.running_passes.specs.Answers.{HasWoken}
+use Rattle.running_model.specs.Shown.{object_shown, index_shown}
 use Rattle.model_events.specs.declared.hold.HoldKind.TheVariants as kinds
 use Rattle.running_rw_writer.specs.declared.pass.RwWriterPass.{RwWriterPass}
-use Rattle.running_rw_writer.specs.RwWriterShown.{pass_in, sights_in, HasLeftReading}
+use Rattle.running_rw_writer.specs.RwWriterShown.{pass_in, sights_in, HasLeftReading, HasWokenOne}
 use Rattle.running_rw_value.specs.RwValueShown.{PlaysUnlock}
 use Rattle.running_rw_value.proofs.lock.RwLock.with_read.Goals as goal
 
-pub returns-in-Success-clause-read : goal.returns-in-Success-clause-read
-returns-in-Success-clause-read g c =
-    let back = sym (c.pass-1.given.1 (sym c.in-Success.ensures.same_borrow ∙ sym c.unlock_read.ensures.same_borrow)) in record {
-      within = c.in-Success.guard.pass.now;
-      entered = c.in-Success.ensures.granted;
-      came = c.in-Success.ensures.played;
-      left = subst (λ (q : RwWriterPass). HasLeftReading (pass_in c.in-Success.guard.pass.now) (pass_in q)) back c.unlock_read.ensures.released;
-      went = subst (λ (q : RwWriterPass). PlaysUnlock kinds.Read c.in-Success.guard.pass.now q) back c.unlock_read.ensures.played;
+pub returns-then-not-entered-clause-aborted : goal.returns-then-not-entered-clause-aborted
+returns-then-not-entered-clause-aborted g c = let no = c.if-not-entered.true in c.enter_to_read-entered.ensures.aborted cc
+
+pub returns-clause-read : goal.returns-clause-read
+returns-clause-read g c =
+    let yes = c.if-not-entered.false in
+    let within = c.enter_to_read-entered.new.pass in
+    let back = sym (c.pass-1.given.1 (sym c.read_hold.ensures.same_reference ∙ sym c.unlock.ensures.same_borrow)) in record {
+      within = within;
+      entered = c.enter_to_read-entered.ensures.entered cc;
+      came = c.enter_to_read-entered.ensures.played cc;
+      left = subst (λ (q : RwWriterPass). HasLeftReading (pass_in within) (pass_in q)) back
+          (subst (λ (p : RwWriterPass). HasLeftReading (pass_in p) (pass_in c.unlock.result.now)) c.read_hold.ensures.same_pass (c.unlock.ensures.released.reading tt));
+      went = subst (λ (q : RwWriterPass). PlaysUnlock kinds.Read within q) back
+          (subst (λ (p : RwWriterPass). PlaysUnlock kinds.Read p c.unlock.result.now) c.read_hold.ensures.same_pass c.unlock.ensures.played);
     }
 
-pub returns-in-Success-clause-woke : goal.returns-in-Success-clause-woke
-returns-in-Success-clause-woke g c =
-    let back = sym (c.pass-1.given.1 (sym c.in-Success.ensures.same_borrow ∙ sym c.unlock_read.ensures.same_borrow)) in
-    subst (λ (q : RwWriterPass). (sights_in q).last ≡ 3 → HasWoken g.K.Fn c.args.wake_one) back c.unlock_read.ensures.woke
+pub returns-clause-woke : goal.returns-clause-woke
+returns-clause-woke g c =
+    let back = sym (c.pass-1.given.1 (sym c.read_hold.ensures.same_reference ∙ sym c.unlock.ensures.same_borrow)) in
+    subst (λ (q : RwWriterPass). (sights_in q).last ≡ 3 → HasWokenOne g.K.Fn object_shown index_shown c.args.self.now.lock c.args.wake_one) back (c.unlock.ensures.woke_one tt)

@@ -2,6 +2,7 @@ use Rattle.std.proofs.Common.{◌∙◌, refl, sym, subst}
 use Rattle.model_events.specs.declared.hold.HoldKind.TheVariants as kinds
 use Rattle.running_rw_writer.specs.declared.pass.RwWriterPass.{RwWriterPass}
 use Rattle.running_rw_writer.specs.RwWriterShown.{pass_in, HasLeftWriting}
+use Rattle.running_rw_writer.proofs.RwWriterTries.{gives_up_by}
 use Rattle.running_rw_value.specs.RwValueShown.{PlaysUnlock}
 use Rattle.running_rw_value.proofs.lock.RwLock.with_write.Goals as goal
 
@@ -30,6 +31,12 @@ returns-clause-woke g c = c.unlock.ensures.woke_both tt
 
 pub returns-then-not-entered-clause-woke_giving_up : goal.returns-then-not-entered-clause-woke_giving_up
 returns-then-not-entered-clause-woke_giving_up g c marked = let woke = c.enter_to_write-entered.ensures.woke c.if-not-entered.true marked in (
-  record { word = woke.0.word; says = record { shown = woke.0.says.shown; shows = woke.0.says.shows; says = record { met = woke.0.says.says.met } } },
-  record { word = woke.1.word; says = record { shown = woke.1.says.shown; shows = woke.1.says.shows; says = record { met = woke.1.says.says.met } } },
+  record { word = woke.0.word; of = woke.0.of; says = record { shown = woke.0.says.shown; shows = woke.0.says.shows; says = record { met = woke.0.says.says.met } } },
+  record { word = woke.1.word; of = woke.1.of; says = record { shown = woke.1.says.shown; shows = woke.1.says.shows; says = record { met = woke.1.says.says.met } } },
 )
+
+pub returns-then-not-entered-clause-gave_up : goal.returns-then-not-entered-clause-gave_up
+returns-then-not-entered-clause-gave_up g c = gives_up_by _ _ (pass_in c.args.pass.now) (pass_in c.enter_to_write-entered.new.pass) (λ woke. (
+  record { word = woke.0.word; of = woke.0.of; says = record { shown = woke.0.says.shown; shows = woke.0.says.shows; says = record { met = woke.0.says.says.met } } },
+  record { word = woke.1.word; of = woke.1.of; says = record { shown = woke.1.says.shown; shows = woke.1.says.shows; says = record { met = woke.1.says.says.met } } },
+)) (c.enter_to_write-entered.ensures.gave_up c.if-not-entered.true)

@@ -1,5 +1,6 @@
-use Rattle.sync_steps.proofs.Names.{arith, take_all}
-use Rattle.sync_steps.proofs.Plays.{plays_none, plays_next, refuses_next}
+use Rattle.sync_steps.proofs.Names.{arith, ◌∷◌, take_all, after, plays_next, refuses_next, fault_of}
+use Rattle.sync_steps.proofs.Objects.{headline}
+use Rattle.sync_steps.proofs.StrideLaws.{plays_none}
 use Rattle.sync_steps.proofs.steps.playing.play.Goals as goal
 
 pub loop-turn-init : goal.loop-turn-init
@@ -17,14 +18,18 @@ loop-turn-preserved g c =
       count = omega (arith, c.push_reserved.ensures.len, c.loop-turn.invariant.count);
       plays =
           rw c.push_reserved.ensures.items
-          (plays_next g.T.AtomicInteger.arithmetic c.args.schedule.now c.loop-turn.turn-index c.args.machine.now c.loop-turn.machine c.step.new.self c.loop-turn.events.items c.turn-item.result c.in-Ok-step.event
-          (omega arith) c.turn-item.is c.loop-turn.invariant.plays c.in-Ok-step.ensures.next);
+          (λ o parties past at.
+          let before = c.loop-turn.invariant.plays o parties past at in
+          let one = c.in-Ok-step.ensures.next o parties (after c.loop-turn.events.items past) before.stands in
+          plays_next past c.args.schedule.now c.loop-turn.turn-index c.loop-turn.machine c.step.new.self c.loop-turn.events.items c.turn-item.result c.in-Ok-step.event
+          (omega arith) c.turn-item.is before one.0 one.1 (headline g.T.AtomicInteger.arithmetic o parties (c.in-Ok-step.event ∷ after c.loop-turn.events.items past) one.1.run));
     }
 
 pub returns-in-Err-clause-err : goal.returns-in-Err-clause-err
-returns-in-Err-clause-err g c =
-    refuses_next g.T.AtomicInteger.arithmetic c.args.schedule.now c.loop-turn.turn-index c.args.machine.now c.loop-turn.machine c.step.new.self c.loop-turn.events.items c.turn-item.result c.in-Err.fault
-    (omega arith) c.turn-item.is (omega arith) c.loop-turn.invariant.plays c.in-Err.ensures.err c.in-Err.ensures.fault
+returns-in-Err-clause-err g c o parties past at =
+    let before = c.loop-turn.invariant.plays o parties past at in
+    refuses_next (λ now turn. fault_of g.T.AtomicInteger.arithmetic o parties now turn.0 turn.1) past c.args.schedule.now c.loop-turn.turn-index c.loop-turn.machine c.step.new.self c.loop-turn.events.items c.turn-item.result c.in-Err.fault
+    (omega arith) c.turn-item.is (omega arith) before c.in-Err.ensures.err (c.in-Err.ensures.fault o parties (after c.loop-turn.events.items past) before.stands)
 
 pub returns-clause-ok : goal.returns-clause-ok
 returns-clause-ok g c =

@@ -1,0 +1,5 @@
+pub mod Names
+pub mod Runs
+pub mod Stands
+pub mod Strides
+pub mod Merged

@@ -1,0 +1,4 @@
+pub mod Names
+pub mod Walk
+pub mod Output
+pub mod Run
