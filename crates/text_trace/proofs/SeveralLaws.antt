@@ -1,5 +1,5 @@
 -- The rows of a text of several objects.
-use Rattle.text_trace.proofs.Names.{nat_tests, eqb-true, eqb-false, ◌≡◌, ℕ, zero, suc, ◌+◌, ◌<◌, ◌≤◌, ◌==◌, Bool, true, false, cond, List, [], ◌∷◌, ◌++◌, length, map, take, drop, get_or, slice_get, replicate, codes, string_bytes, Option, Some, None, Result, Ok, Err, IfSome, refl, sym, subst, ◌∙◌, ap, take_more, map-append, drop_all, arith, decimal, Arithmetic, Object, HoldKind, Event, hold_of, table_of, word_in, hold_among, call_of, holds_of, is_quiet, IsQuiet, Numerals, FaultyLine, Texts, act_words, standing_words, words_text, text_at, holders, with_holder, or_dash, for_each, Row, Entry, entries, added_often, trimmed_to, lines_of, String, Global}
+use Rattle.text_trace.proofs.Names.{nat_tests, eqb-true, eqb-false, ◌≡◌, ℕ, zero, suc, ◌+◌, ◌<◌, ◌≤◌, ◌==◌, Bool, true, false, cond, List, [], ◌∷◌, ◌++◌, length, map, drop, get_or, slice_get, replicate, codes, string_bytes, Option, Some, None, Result, Ok, Err, IfSome, refl, sym, subst, ◌∙◌, ap, drop_all, arith, decimal, Arithmetic, Object, HoldKind, Event, hold_of, table_of, word_in, hold_among, call_of, holds_of, is_quiet, IsQuiet, Numerals, FaultyLine, Texts, act_words, standing_words, words_text, text_at, holders, with_holder, or_dash, for_each, Row, Entry, entries, added_often, trimmed_to, lines_of, String, Global}
 use Rattle.model_room.specs.Room.{Seating, StandsAt}
 use Rattle.model_room.specs.Runs.{events_of}
 use Rattle.model_room.specs.declared.event.RoomEvent.{RoomEvent}
@@ -32,13 +32,6 @@ none_there : {A : Type 0} (xs : List A) (k : ℕ) → length xs ≤ k → slice_
 none_there [] k beyond = refl
 none_there (x ∷ xs) zero beyond = absurd (omega (arith, beyond))
 none_there (x ∷ xs) (suc k) beyond = none_there xs k (omega (arith, beyond))
-
--- A list is told one by one.
-pub mapped_more : {A B : Type 0} (g : A → List ℕ) (f : B → List ℕ) (xs : List A) (i : ℕ) (x : A) (out out' : List B) (made : B) → i < length xs → x ≡ get_or xs i x → map f out ≡ map g (take i xs) → out' ≡ out ++ made ∷ [] → f made ≡ g x →
-    map f out' ≡ map g (take (i + 1) xs)
-mapped_more {A} {B} g f xs i x out out' made below item before is reads =
-    ap (map f) is ∙ map-append f out (made ∷ []) ∙ ap (λ (l : List (List ℕ)). l ++ f made ∷ []) before ∙ ap (λ (t : List ℕ). map g (take i xs) ++ t ∷ []) (reads ∙ ap g item)
-    ∙ sym (ap (map g) (take_more xs i x below) ∙ map-append g (take i xs) (get_or xs i x ∷ []))
 
 -- One more of an event adds to the events of its object alone.
 events_again : {T X : Type 0} (k : ℕ) (e : RoomEvent T) (past : List (RoomEvent T)) (F : List (Event T) → X) → ((there : List (Event T)) → F (e.event ∷ e.event ∷ there) ≡ F (e.event ∷ there)) → F (events_of k (e ∷ e ∷ past)) ≡ F (events_of k (e ∷ past))

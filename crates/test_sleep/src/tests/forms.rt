@@ -103,18 +103,49 @@ fn of_its_own_word<R: Wait>(
 }
 
 #[test]
-fn closures_are_handed_in_each_form(rt: HostRuntime) -> Result<(), Fail> {
-    let sleepers = Sleepers::new();
+fn closures_are_handed_by_their_names(rt: HostRuntime) -> Result<(), Fail> {
     let (mutex, mut pass) = Mutex::new(rt.alloc())?;
     let (semaphore, mut permits) = Semaphore::new(rt.alloc(), 0)?;
     let (locked, waited) = by_names(&rt, &mutex, &mut pass, &semaphore, &mut permits);
     assert!(rt; locked == WaitResult::Success(1));
     assert!(rt; waited == WaitResult::Interrupted);
+    Ok(())
+}
+
+#[test]
+fn a_callers_own_closures_are_handed_on(rt: HostRuntime) -> Result<(), Fail> {
+    let (mutex, mut pass) = Mutex::new(rt.alloc())?;
     let handed = handed_on(&rt, &mutex, &mut pass, give_up, nobody);
     assert!(rt; handed == WaitResult::Success(2));
+    Ok(())
+}
+
+#[test]
+fn closures_are_handed_with_their_types(rt: HostRuntime) -> Result<(), Fail> {
+    let sleepers = Sleepers::new();
+    let (mutex, mut pass) = Mutex::new(rt.alloc())?;
     assert!(rt; with_types(&rt, &sleepers, &mutex, &mut pass) == WaitResult::Success(3));
+    Ok(())
+}
+
+#[test]
+fn closures_are_handed_without_types(rt: HostRuntime) -> Result<(), Fail> {
+    let sleepers = Sleepers::new();
+    let (mutex, mut pass) = Mutex::new(rt.alloc())?;
     assert!(rt; without_types(&rt, &sleepers, &mutex, &mut pass) == WaitResult::Success(4));
+    Ok(())
+}
+
+#[test]
+fn functions_for_any_word_are_handed(rt: HostRuntime) -> Result<(), Fail> {
+    let (mutex, mut pass) = Mutex::new(rt.alloc())?;
     assert!(rt; for_any_word(&rt, &mutex, &mut pass) == WaitResult::Success(5));
+    Ok(())
+}
+
+#[test]
+fn a_word_of_ones_own_is_handed_a_closure_and_functions(rt: HostRuntime) -> Result<(), Fail> {
+    let sleepers = Sleepers::new();
     let (own, mut own_pass): (running_mutex::Mutex, MutexPass) = running_mutex::Mutex::new(
         rt.alloc(),
     )?;
