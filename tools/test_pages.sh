@@ -26,7 +26,7 @@ test_pages() {
     shows "#10" "press('End'); press('ArrowRight')" "step 10013" "<mark>lock write</mark>, counter 1, <mark>holds 2 writes</mark>, nobody waits"
     shows "#10" "press('End'); press('Home')" "step 1" "nobody holds"
     shows "" "runs[0].rows[2].group.onclick()" "step 3" "<mark>lock 1 reader</mark>, counter 0, <mark>holds 1 reads</mark>, nobody waits"
-    shows "#3" "told.append([slider.getAttribute('aria-valuetext'), document.querySelector('[aria-current]').getAttribute('aria-label')])" "step 3" \
+    shows "#3" "runs[0].told.append([slider.getAttribute('aria-valuetext'), document.querySelector('[aria-current]').getAttribute('aria-label')])" "step 3" \
         "step 3, line 3, party 1: free → 1 reader (exchange 0 for 2, found 0, done); lock 1 reader, counter 0, holds 1 reads, nobody waits,step 3, line 3"
     page=docs/pages/rwwriter-lost-wake.html
     shows "#10008" "" "step 10008" "The Rust crate, 0.10.0: step 10008, line 7, party 1: sees 1 reader, mark" "$page"
@@ -76,7 +76,7 @@ opens() {
 shows() {
     local said
     opens "${5-docs/pages/rwwriter-last-look.html}" "$2" "$1"
-    said=$(grep -F 'id="told"' "$room/out")
+    said=$(grep -F '<figcaption' "$room/out")
     if [[ $said != *"<b>$3</b>"* || $(sed 's/<\/\?\(span\|b\)>//g' <<<"$said") != *"$4"* ]]; then
         fail "a page at '$1' after '$2'" "it does not show $3 and $4: $said"
     else
@@ -84,7 +84,7 @@ shows() {
     fi
 }
 
-# Each step of a page of this width, on and back, has its words below the header and within the page: is_in_sight PAGE WIDTH
+# Each step of a page of this width, on and back, has the words of each run in sight, where nothing covers them: is_in_sight PAGE WIDTH
 is_in_sight() {
     echo "<script>onmessage = it => { document.title = it.data }</script><iframe src=page.html width=$2 height=600></iframe>" >"$room/frame.html"
     {
@@ -92,10 +92,11 @@ is_in_sight() {
         cat <<'HTML'
 <script>
 let lost = 0
-const isLost = it => it.top < document.querySelector('header').getBoundingClientRect().bottom || it.bottom > innerHeight || it.left < 0 || it.right > innerWidth
+const isAt = (it, x, y) => it.contains(document.elementFromPoint(x, y))
+const isLost = (it, { left, right, top, bottom } = it.getBoundingClientRect()) => ![[left + 2, top + 2], [right - 2, top + 2], [left + 2, bottom - 2], [right - 2, bottom - 2]].every(([x, y]) => isAt(it, x, y))
 for (const way of [1, -1]) places.forEach(() => {
   go(at + way)
-  lost += isLost([...document.querySelectorAll('.now text:first-of-type')].pop().getBoundingClientRect())
+  lost += [...document.querySelectorAll('.now text:first-of-type')].some(it => isLost(it))
 })
 parent.postMessage(`lost ${lost} of ${places.length}`, '*')
 </script>
