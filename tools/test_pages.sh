@@ -32,6 +32,12 @@ test_pages() {
     shows "#10008" "" "step 10008" "The Rust crate, 0.10.0: step 10008, line 7, party 1: sees 1 reader, mark" "$page"
     shows "" "press('End'); press('ArrowLeft'); press('ArrowLeft')" "step 10011" "<mark>waiting: 2</mark>" "$page"
     shows "" "press('End')" "step 10013" "Hevdzura: step 10013, line 8, party 2: mark → write" "$page"
+    opens "$page" "document.title = [...document.querySelectorAll('header > *')].every(it => Math.min(it.offsetHeight, it.offsetWidth) >= 44)" "" --blink-settings=primaryPointerType=2,availablePointerTypes=2
+    if grep -qF "<title>true</title>" "$room/out"; then
+        succeed
+    else
+        fail "a page's buttons" "they are too small for a finger"
+    fi
     for page in docs/pages/*.html; do
         for width in 400 800 1400; do
             is_in_sight "$page" "$width"

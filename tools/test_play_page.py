@@ -112,6 +112,23 @@ class Cases:
         for kind in ("keyDown", "keyUp"):
             self.browser.ask("Input.dispatchKeyEvent", type=kind, key=key, code=key, windowsVirtualKeyCode=13, text="\r" if kind == "keyDown" else "")
 
+    def open_long(self, width):
+        """The last step of a long schedule is in sight as soon as it opens; where fingers point, all that they meet is large enough."""
+        run, touch = self.browser.run, width < 1000
+        self.browser.ask("Emulation.setTouchEmulationEnabled", enabled=touch)
+        self.go(width, "a long schedule", "#play/rwwriter+3" + "/1+read_lock/1+run/1+unlock/1+run" * 20)
+        ends = "({ left, top, right, bottom }) => [[left + 2, top + 2], [right - 2, bottom - 2]]"
+        in_sight = f"(it => ({ends})(it.getBoundingClientRect()).every(([x, y]) => document.elementFromPoint(x, y) === it))"
+        self.seen("its last step", f"{in_sight}([...picture.querySelectorAll('svg > g')].at(-1).querySelector('text'))")
+        self.judge("its last line, and the page's head", run("[text.scrollHeight - text.scrollTop - text.clientHeight < 2, scrollY]"), [True, 0])
+        small = "[...document.querySelectorAll('button, select, label, nav a, textarea')].filter(it => it.offsetHeight && Math.min(it.offsetHeight, it.offsetWidth) < 44)"
+        self.judge("what is small", not touch or run(f"{small}.map(it => it.textContent.slice(0, 20))"), not touch or [])
+        self.judge("small letters where one writes", run("parseFloat(getComputedStyle(text).fontSize) < 16"), not touch)
+        run("share.focus()")
+        self.press("Enter")
+        self.seen("the address is copied", "share.textContent === 'copied'")
+        self.browser.ask("Emulation.setTouchEmulationEnabled", enabled=False)
+
     def click_through(self, width):
         run, mutex = self.browser.run, "#play/mutex+2"
         button = "[...parties.children[{}].querySelectorAll('button')]"
@@ -152,8 +169,9 @@ class Cases:
         self.go(width, "a question", "#explore/mutex+2/1+lock,+unlock/2+lock,+unlock/2+may+abort")
         self.seen("its answer", "answers.children.length === 3")
         self.judge("nothing is wider than the page", run("document.documentElement.scrollWidth <= innerWidth"), True)
-        run("answers.querySelector('button').click()")
+        run("scrollTo(0, 9999); answers.querySelector('button').click()")
         self.seen("it is played", "out.textContent.startsWith('1 success\\n') && mode() === 'play'")
+        self.judge("where it is read", run("[text, picture].every(it => it.getBoundingClientRect().top >= 0 && it.getBoundingClientRect().top < innerHeight / 2)"), True)
         for name, words in (("a lost wake", "1 run"), ("Peterson's lock", "never: "), ("two philosophers", "fetch_or")):
             run(f"[...document.querySelectorAll('nav a')].find(it => it.textContent === {json.dumps(name)}).click()")
             self.seen(name, f"mode() === 'explore' && (out.textContent + answers.textContent).includes({json.dumps(words)})", 60)
@@ -199,6 +217,7 @@ def main():
             cases.compare(at_random())
         elif sys.argv[1:] == ["clicks"]:
             for width in (400, 800, 1400):
+                cases.open_long(width)
                 cases.click_through(width)
                 cases.ask_through(width)
             cases.go_amiss()
