@@ -1,6 +1,6 @@
 # Each page of docs/pages is its picture, to step through; and where Chromium is at hand, a page goes as its keys, its address and a click say, every
-# step of each page is in sight at three widths, and a page has one ground in light and in dark. The playground docs/play.html is of these sources; it
-# gives what is stored of each example, and goes as its buttons, keys and links say.
+# step of each page is in sight at three widths, its buttons fit a finger, and a page has one ground in light and in dark. The playground docs/play.html
+# is of these sources; it gives what is stored of each example, and goes as its buttons, keys and links say.
 test_pages() {
     local page name width same
     for page in docs/pages/*.html; do
