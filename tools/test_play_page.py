@@ -95,7 +95,7 @@ class Cases:
 
     def open(self):
         self.browser.open(PAGE)
-        self.browser.wait("typeof play_schedule === 'function'")
+        self.browser.wait("typeof play_schedule === 'function' && job === undefined")
         self.browser.run(TESTER)
 
     def seen(self, what, condition, seconds=20):
@@ -172,9 +172,10 @@ class Cases:
         run("scrollTo(0, 9999); answers.querySelector('button').click()")
         self.seen("it is played", "out.textContent.startsWith('1 success\\n') && mode() === 'play'")
         self.judge("where it is read", run("[text, picture].every(it => it.getBoundingClientRect().top >= 0 && it.getBoundingClientRect().top < innerHeight / 2)"), True)
-        for name, words in (("a lost wake", "1 run"), ("Peterson's lock", "never: "), ("two philosophers", "fetch_or")):
+        lit = "out.querySelector('mark')?.textContent === '2 go 1\\n'"
+        for name, found in (("a lost wake", lit), ("Peterson's lock", "answers.textContent.includes('never: ')"), ("two philosophers", "out.textContent.includes('fetch_or')")):
             run(f"[...document.querySelectorAll('nav a')].find(it => it.textContent === {json.dumps(name)}).click()")
-            self.seen(name, f"mode() === 'explore' && (out.textContent + answers.textContent).includes({json.dumps(words)})", 60)
+            self.seen(name, f"mode() === 'explore' && {found}", 60)
 
     def go_amiss(self):
         run = self.browser.run
