@@ -1,0 +1,8 @@
+//! A lock of one's own as a text: its words, its calls, and its table of steps, a row a line; and whether its rows show that it has one holder at
+//! most.
+#![tactic(auto)]
+
+mod row;
+mod table;
+
+pub use table::{Calls, OwnLock};
