@@ -2,6 +2,7 @@
 //! most.
 #![tactic(auto)]
 
+mod judge;
 mod row;
 mod table;
 

@@ -41,7 +41,7 @@ enum Said {
     Question,
 }
 
-fn push<T: Copy>(items: &mut Vec<T>, item: T) -> Result<(), AllocError>
+pub(crate) fn push<T: Copy>(items: &mut Vec<T>, item: T) -> Result<(), AllocError>
     ensures { OnOk result (items.new.items ≡ items.old.items ++ item ∷ []) }
 {
     items.push(item)?;
