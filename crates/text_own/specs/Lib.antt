@@ -2,3 +2,4 @@ pub mod Names
 pub mod Row
 pub mod Table
 pub mod Judge
+pub mod Answer

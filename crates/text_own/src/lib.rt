@@ -5,5 +5,6 @@
 mod judge;
 mod row;
 mod table;
+mod verdict;
 
-pub use table::{Calls, OwnLock};
+pub use verdict::{Judged, answer, begins_own};
