@@ -245,8 +245,7 @@ module _ {T : Type 0} (word : Word) (opening : Word → ℕ) (entries : Entries 
           by None is fits = absurd cc
           by (Some after) is fits =
               let b = passes row.test place.kept (told_at (Some row)) in
-              let keeps = step_keeps T word row after p place.kept holds memory rule role is has in
-              (
+              let keeps = step_keeps T word row after p place.kept holds memory rule role is has in (
                 keeps.0,
                 λ next to. fits_holds (role_by after b) (slice_get roles next.row) _ (leads_on T roles (role_by after b) place next (told_at (Some row)) (way_by row b).next (fits_way roles after row b fits) to) keeps.1,
                 ends_as T roles (role_by after b) place (told_at (Some row)) (way_by row b).next _ (fits_way roles after row b fits) keeps.1,
@@ -262,7 +261,7 @@ module _ {T : Type 0} (word : Word) (opening : Word → ℕ) (entries : Entries 
           let is : change_by t rows made (Some c) ≡ change_of (way_of (slice_get rows place.row) place.kept told) =
           ap (λ b. if b then change_at rows (stage_of t c) (value_told made) else HoldChange.Keeps) (carried_is_step (t.intent place hold) memory) ∙ ap (λ s. change_at rows s (value_told made)) stage in
           subst (λ (change : HoldChange). IsFreeOrHeld (word_after word made (memory word)) (changed p change holds) × Here (call_after (step_at t place hold memory).outcome (event p made (step_at t place hold memory).outcome) (Some c)) (hold_among p (changed p change holds))
-              × Tells (step_at t place hold memory).outcome (hold_among p (changed p change holds)))
+          × Tells (step_at t place hold memory).outcome (hold_among p (changed p change holds)))
           (sym is) (went.0, goes_on (t.after place told) _ refl went.1, went.2)
 
     moved :

@@ -7,7 +7,9 @@ ghost use Rattle.text_own.specs.Table.{told_lock};
 use crate::row::word_at;
 use crate::table::{Calls, OwnLock, push};
 use model_events::event::Word;
-use model_own::{Entry, Next, Role, Row, any_such_lock_has_one_holder, fits_entry, is_lock, leaves};
+use model_own::{
+    Entry, Next, Role, Row, any_such_lock_has_one_holder, fits_entry, is_lock, leaves,
+};
 use std::alloc::{AllocError, Global};
 
 /// The role in which a row is made once it is also led to in another; `None` where that changes nothing.

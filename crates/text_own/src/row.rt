@@ -47,7 +47,6 @@ pub(crate) fn verb_of(word: &[u8]) -> Option<Verb>
     }
 }
 
-
 /// A number, or `found`: what the step before was told.
 fn number_in(line: &[u8]) -> Read<'_, Number>
     ensures { meaning.read result ≡ meaning.number_in (words_of line.now) }

@@ -170,15 +170,15 @@ fn read_line(
     labels: &[&[u8]],
     rows: usize,
     calls: Calls,
-    asked: bool,
+    is_over: bool,
     line: &[u8],
 ) -> Result<Said, LineFault>
-    ensures { result ≡ meaning.read_line (map (λ n. n.now) names.now) (map (λ l. l.now) labels.now) rows calls asked (words_of line.now) }
+    ensures { result ≡ meaning.read_line (map (λ n. n.now) names.now) (map (λ l. l.now) labels.now) rows calls is_over (words_of line.now) }
 {
     let Some((first, rest)) = next_word(line) else {
         return Ok(Said::Nothing);
     };
-    if asked {
+    if is_over {
         return Err(LineFault::BadLine);
     }
     if is_question(first, rest) {

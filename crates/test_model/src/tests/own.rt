@@ -129,11 +129,7 @@ fn wrong_locks_fail() -> Result<(), Fail> {
         ZERO,
         (Takes(Write), Success, Keeps, At(0)),
     );
-    let only_says_so = row(
-        Load(Word::State),
-        ZERO,
-        (Keeps, Success, Keeps, At(0)),
-    );
+    let only_says_so = row(Load(Word::State), ZERO, (Keeps, Success, Keeps, At(0)));
     let refused_holding = row(
         Store(Word::State, Is(1)),
         ZERO,
