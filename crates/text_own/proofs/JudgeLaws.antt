@@ -1,8 +1,8 @@
 -- A word that opens with 0, and calls that begin in the roles of their rows.
-use Rattle.std.proofs.Common.{◌≡◌, ℕ, zero, suc, true, List, [], ◌∷◌, Some, refl, sym, subst, arith}
+use Rattle.std.proofs.Common.{◌≡◌, ℕ, zero, suc, true, List, [], ◌∷◌, Some, subst, arith}
 use Rattle.std.specs.Prelude.{slice_get, get_or}
-use Rattle.text_own.specs.Names.{Word, Call, Role, Row}
-use Rattle.model_own.specs.OneHolder.{fits_call, EntriesFit, Fit, IsOwnLock}
+use Rattle.text_own.specs.Names.{Word, Role, Row}
+use Rattle.model_own.specs.OneHolder.{EntriesFit, Fit, IsOwnLock}
 use Rattle.text_own.specs.Judge.{opening_in, entries_of, fits_calls}
 use Rattle.text_own.specs.Row.{word_at}
 use Rattle.text_own.specs.declared.table.Calls.{Calls}

@@ -1,6 +1,6 @@
 -- What is shown of a lock of one's own.
-use Rattle.std.specs.Prelude.{◌≡◌, ℕ, Bool, ◌&&◌, List, Option, Some, None, get_or}
-use Rattle.text_own.specs.Names.{Call, Word, Entry, Role}
+use Rattle.std.specs.Prelude.{ℕ, Bool, ◌&&◌, List, None, get_or}
+use Rattle.text_own.specs.Names.{Call, Word, Role}
 use Rattle.model_events.specs.Exports.{u64_arithmetic, IsExclusive}
 use Rattle.model_events.specs.declared.event.Event.{Event}
 use Rattle.model_own.specs.Holds.{IsOwnPast, own_holds}

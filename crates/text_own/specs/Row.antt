@@ -1,5 +1,5 @@
 -- What the line of a row says.
-use Rattle.std.specs.Prelude.{ℕ, zero, suc, ◌-◌, ◌^◌, Bool, if◌then◌else◌, List, [], ◌∷◌, Option, Some, None, Result, Ok, Err, codes}
+use Rattle.std.specs.Prelude.{ℕ, zero, suc, ◌-◌, ◌^◌, if◌then◌else◌, List, [], ◌∷◌, Option, Some, None, Result, Ok, Err, codes}
 use Rattle.std.specs.Borrow.{Bor}
 use Rattle.text_own.specs.Names.{bytes_eq, words_of, number_within, nothing, place_of, ◌>>=◌, LineFault, Wake, Word, HoldKind, HoldChange, Next, Number, Operation, Row, Test, Way}
 use Rattle.model_own.specs.declared.Test.TheVariants as tests

@@ -1,7 +1,7 @@
 -- The lines of a table: what each adds to what was read before it.
-use Rattle.std.specs.Prelude.{◌≡◌, ℕ, ◌+◌, ◌-◌, ◌^◌, ◌==◌, Bool, true, false, ◌&&◌, not, is_some, is_none, List, [], ◌∷◌, ◌++◌, length, map, Option, Some, None, Result, Ok, Err, codes, if◌then◌else◌}
+use Rattle.std.specs.Prelude.{ℕ, ◌+◌, ◌-◌, ◌^◌, ◌==◌, Bool, true, false, ◌&&◌, ◌||◌, is_none, List, [], ◌∷◌, ◌++◌, length, map, Option, Some, None, Result, Ok, Err, codes, if◌then◌else◌}
 use Rattle.std.specs.Borrow.{Bor}
-use Rattle.text_own.specs.Names.{bytes_eq, lines_of, words_of, number_within, nothing, place_of, may_name, at_line, ◌>>=◌, LineFault, FaultyLine, Row, Entry}
+use Rattle.text_own.specs.Names.{bytes_eq, words_of, number_within, nothing, place_of, may_name, at_line, ◌>>=◌, LineFault, FaultyLine, Row, Entry}
 use Rattle.text_own.specs.Row.{verb_of, row_of, or_bad}
 use Rattle.text_own.specs.declared.row.Verb.{Verb}
 use Rattle.text_own.specs.declared.table.Calls.{Calls}
@@ -14,11 +14,13 @@ abbrev pub told_label : Option (Bor (List ℕ)) → List (List ℕ)
 told_label None = []
 told_label (Some label) = label.now ∷ []
 
--- the label of a row's line, whose second word is a verb
+abbrev pub is_call : List ℕ → Bool
+is_call name = bytes_eq name (codes "lock") || (bytes_eq name (codes "try_lock") || bytes_eq name (codes "unlock"))
+
+-- the label of a row's line, which is none of a call, nor the question
 abbrev pub label_of : List (List ℕ) → List (List ℕ)
 label_of [] = []
-label_of (label ∷ []) = []
-label_of (label ∷ verb ∷ words) = if is_some (verb_of verb) then label ∷ [] else []
+label_of (label ∷ words) = if (is_call label || bytes_eq label (codes "never")) then [] else label ∷ []
 
 abbrev pub labels_of : List (List ℕ) → List (List ℕ)
 labels_of [] = []
@@ -74,14 +76,13 @@ module _ (names labels : List (List ℕ)) (rows : ℕ) (calls : Calls) where
   abbrev pub row_said : List ℕ → Verb → List (List ℕ) → Result Said LineFault
   row_said label verb words = if is_at rows (place_of labels label) then (row_of names labels verb words >>= λ row. Ok (says.Row row)) else Err LineFault.BadLine
 
-  abbrev pub by_verb : List ℕ → List ℕ → List (List ℕ) → Option Verb → Result Said LineFault
-  by_verb first second words (Some verb) = row_said first verb words
-  by_verb first second words None = entry_in labels (second ∷ words) >>= λ entry. with_call calls first entry >>= λ more. Ok (says.Calls more)
+  abbrev pub call_said : List ℕ → List (List ℕ) → Result Said LineFault
+  call_said call words = entry_in labels words >>= λ entry. with_call calls call entry >>= λ more. Ok (says.Calls more)
 
   abbrev pub unless_question : Bool → List ℕ → List (List ℕ) → Result Said LineFault
   unless_question true first words = Ok Said.Question
   unless_question false first [] = Err LineFault.BadLine
-  unless_question false first (second ∷ words) = by_verb first second words (verb_of second)
+  unless_question false first (second ∷ words) = if is_call first then call_said first (second ∷ words) else (or_bad (verb_of second) >>= λ verb. row_said first verb words)
 
   -- what a line says, behind so many rows and these calls; nothing may stand behind the question
   abbrev pub read_line : Bool → List (List ℕ) → Result Said LineFault

@@ -56,15 +56,21 @@ fn push_name<'t>(names: &mut Vec<&'t [u8]>, name: &'t [u8]) -> Result<(), AllocE
     Ok(())
 }
 
-/// The label of a row's line.
+fn is_call(name: &[u8]) -> bool
+    ensures { result ≡ meaning.is_call name.now }
+{
+    is(name, b"lock") || is(name, b"try_lock") || is(name, b"unlock")
+}
+
+/// The label of a row's line, which is none of a call, nor the question.
 fn label_of(line: &[u8]) -> Option<&[u8]>
     ensures { meaning.told_label result ≡ meaning.label_of (words_of line.now) }
 {
-    let (label, rest) = next_word(line)?;
-    let (verb, _) = next_word(rest)?;
-    match verb_of(verb) {
-        Some(_) => Some(label),
-        None => None,
+    let (label, _) = next_word(line)?;
+    if is_call(label) || is(label, b"never") {
+        None
+    } else {
+        Some(label)
     }
 }
 
@@ -187,10 +193,13 @@ fn read_line(
     let Some((second, more)) = next_word(rest) else {
         return Err(LineFault::BadLine);
     };
-    let Some(verb) = verb_of(second) else {
+    if is_call(first) {
         let entry = entry_in(labels, rest)?;
         let calls = with_call(calls, first, entry)?;
         return Ok(Said::Calls(calls));
+    }
+    let Some(verb) = verb_of(second) else {
+        return Err(LineFault::BadLine);
     };
     if place_of(labels, first) != Some(rows) {
         return Err(LineFault::BadLine);

@@ -1,7 +1,6 @@
 use Rattle.std.proofs.Common.{◌≡◌, true, Some, rules}
 use Rattle.std.specs.Prelude.{slice_get}
 use Rattle.model_events.specs.Exports.{u64_arithmetic}
-use Rattle.text_own.specs.Names.{Role, Row}
 use Rattle.model_own.specs.OneHolder.{Fit}
 use Rattle.text_own.specs.Judge.{opening_in, entries_of, fits_calls}
 use Rattle.text_own.proofs.JudgeLaws.{is_own_lock}
