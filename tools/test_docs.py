@@ -40,8 +40,9 @@ def quoted(page, stem, endings=("txt", "out", "err")):
 
 
 def asked(stem):
-    """Whether the explorer's page shows the question with its answer, as they are, or has a row of it, with links to both: of a fault to the advice."""
-    page, name = "docs/EXPLORE.md", os.path.basename(stem)
+    """Whether its page shows the question with its answer, as they are, or has a row of it, with links to both: of a fault to the advice."""
+    name = os.path.basename(stem)
+    page = "docs/OWN.md" if name.startswith("own-") else "docs/EXPLORE.md"
     answer = f"[fault](../{stem}.advice)" if read(f"{stem}.advice") else f"[answer](../{stem}.out)"
     rows = [row for row in TEXTS[page].splitlines() if row.startswith("| ") and f"[{name}](../{stem}.txt): {answer}" in row.split(" | ")[0]]
     if len(rows) > 1:

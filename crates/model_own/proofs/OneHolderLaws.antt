@@ -13,8 +13,8 @@ use Rattle.std.specs.Prelude.{if◌then◌else◌, slice_get, length, ◌≤◌}
 use Rattle.model_events.specs.Exports.{carried_out, word_after}
 use Rattle.model_own.specs.Names.{Table, PendingCall, stage_of, hold_among, Hold, HoldKind, same_word, value_told, WaitAction, Word, Act, Call, Event, After, Number, Test, Operation, HoldChange, Next, Way, Row, Role, OwnPlace, Entry}
 use Rattle.model_own.specs.Rows.{passes, intent_by, intent_of, way_of, led_to, led_by, after_in, answered_in, first_place, Entries, own_table}
-use Rattle.model_own.specs.Holds.{changed, change_of, change_at, change_by, BeginsBy, BegunBy, HaveBegunByHolds, own_holds}
-use Rattle.model_own.specs.OneHolder.{asks_for, if_kept, if_ended, if_taken_at_zero, if_ended_at, stores, swaps, exchanges, works, is_on, leaves, fits_role, fits_next, fits_ways, fits_row, Fit, fits_begin, fits_call, EntriesFit}
+use Rattle.model_own.specs.Holds.{changed, change_of, change_at, change_by, BeginsBy, BegunBy, HaveBegunByHolds, IsOwnPast, own_holds}
+use Rattle.model_own.specs.OneHolder.{asks_for, if_kept, if_ended, if_taken_at_zero, if_ended_at, stores, swaps, exchanges, works, is_on, leaves, fits_role, fits_next, fits_ways, fits_row, Fit, fits_begin, fits_call, EntriesFit, IsOwnLock, Tells, AnswersTell}
 
 -- what a party has in a role
 abbrev pub RoleHolds : Role → Option HoldKind → Type 0
@@ -143,7 +143,7 @@ module _ (T : Type 0) (word : Word) (row : Row) (after : Role × Role) (p kept_v
 -- Of a run: what is kept of each party.
 
 abbrev pub ByRole : Option Role → Option HoldKind → Type 0
-ByRole None hold = Unit {0}
+ByRole None hold = hold ≡ None
 ByRole (Some role) hold = RoleHolds role hold
 
 fits_holds : (role : Role) (at : Option Role) (hold : Option HoldKind) → fits_role role at ≡ true → RoleHolds role hold → ByRole at hold
@@ -154,6 +154,10 @@ begins_in at takes_hold needs_hold hold h1 h2 h3 = grind (arith)
 
 leads_on : (T : Type 0) (roles : List Role) (role : Role) (place there : OwnPlace) (told : Option ℕ) (next : Next) → fits_next roles role next ≡ true → place_after (led_to {T = T} place told next) ≡ Some there → fits_role role (slice_get roles there.row) ≡ true
 leads_on T roles role place there told next h1 h2 = grind (arith, nat_tests, eqb-true, eqb-false)
+
+-- a call that ends there tells whether its party has the hold
+ends_as : (T : Type 0) (roles : List Role) (role : Role) (place : OwnPlace) (told : Option ℕ) (next : Next) (hold : Option HoldKind) → fits_next roles role next ≡ true → RoleHolds role hold → Tells (outcome_of (led_to {T = T} place told next)) hold
+ends_as T roles role place told next hold h1 h2 = grind (arith, nat_tests, eqb-true, eqb-false)
 
 fits_way : (roles : List Role) (after : Role × Role) (row : Row) (b : Bool) → fits_ways roles (Some after) row ≡ true → fits_next roles (role_by after b) (way_by row b).next ≡ true
 fits_way roles after row b h1 = grind (arith)
@@ -175,12 +179,13 @@ module _ {T : Type 0} (word : Word) (opening : Word → ℕ) (entries : Entries 
   module _ (p : ℕ) (holds : List Hold) (memory : Word → ℕ) (rule : IsFreeOrHeld (memory word) holds) where
     abbrev Moved : Option (PendingCall T) → Move T → Type 0
     Moved k x =
+        let after = changed p (change_by t rows x.act k) holds in
         Here k (hold_among p holds) → BegunBy entries x.act (hold_among p holds) →
-        IsFreeOrHeld (word_after word x.act (memory word)) (changed p (change_by t rows x.act k) holds) × Here (call_after x.outcome (event p x.act x.outcome) k) (hold_among p (changed p (change_by t rows x.act k) holds))
+        IsFreeOrHeld (word_after word x.act (memory word)) after × Here (call_after x.outcome (event p x.act x.outcome) k) (hold_among p after) × Tells x.outcome (hold_among p after)
 
     begun : (pending : Option (PendingCall T)) (hold : Option HoldKind) (call : Call T) → begin_fault t pending hold call ≡ None → Moved pending (record { act = Act.Begun call; outcome = Then.GoesOn })
     begun (Some c) hold call allowed here by_hold = absurd cc
-    begun None hold call allowed here by_hold = (rule, at_first (entries call) refl (begin call) by_hold allowed)
+    begun None hold call allowed here by_hold = (rule, at_first (entries call) refl (begin call) by_hold allowed, tt)
       where
         at_first : (e : Option Entry) → entries call ≡ e → fits_call roles e ≡ true → BeginsBy e (hold_among p holds) → (if is_some (first_place e) then hold_fault t call hold else Some StepFault.OtherObject) ≡ None →
             (place : OwnPlace) × (first_place (entries call) ≡ Some place) × ByRole (slice_get roles place.row) (hold_among p holds)
@@ -189,11 +194,11 @@ module _ {T : Type 0} (word : Word) (opening : Word → ℕ) (entries : Entries 
 
     answered_on : (pending : Option (PendingCall T)) (hold : Option HoldKind) (action : WaitAction) → fault_at t pending hold (Input.Answer action) ≡ None → Moved pending (record { act = Act.Answered action; outcome = Then.GoesOn })
     answered_on None hold action allowed here by_hold = absurd cc
-    answered_on (Some c) hold action allowed here by_hold = (rule, (answered_in here.0 action, ap (next_stage t (Act.Answered action)) here.1, here.2))
+    answered_on (Some c) hold action allowed here by_hold = (rule, (answered_in here.0 action, ap (next_stage t (Act.Answered action)) here.1, here.2), tt)
 
     chosen_on : (pending : Option (PendingCall T)) (hold : Option HoldKind) (choice : Option T) → fault_at t pending hold (Input.Choose choice) ≡ None → Moved pending (record { act = Act.Chosen choice; outcome = Then.GoesOn })
     chosen_on None hold choice allowed here by_hold = absurd cc
-    chosen_on (Some c) hold choice allowed here by_hold = (rule, (here.0, ap (next_stage t (Act.Chosen choice)) here.1, here.2))
+    chosen_on (Some c) hold choice allowed here by_hold = (rule, (here.0, ap (next_stage t (Act.Chosen choice)) here.1, here.2), tt)
 
     module _ (c : PendingCall T) (place : OwnPlace) (hold : Option HoldKind) (stage : stage_of t c ≡ Some place) where
       abbrev made : Act T
@@ -229,17 +234,22 @@ module _ {T : Type 0} (word : Word) (opening : Word → ℕ) (entries : Entries 
           (found : Option Row) (at : Option Role) → fits_row word roles at found ≡ true → ByRole at (hold_among p holds) →
           IsFreeOrHeld (word_after word (carried_out {T = T} (intent_of found place.kept) memory) (memory word)) (changed_at found)
           × ((next : OwnPlace) → place_after (led_by {T = T} place (told_at found) (way_of found place.kept (told_at found))) ≡ Some next → ByRole (slice_get roles next.row) (hold_among p (changed_at found)))
-      at_row None None fits has = (rule, λ next no. absurd cc)
+          × Tells (outcome_of (led_by {T = T} place (told_at found) (way_of found place.kept (told_at found)))) (hold_among p (changed_at found))
+      at_row None None fits has = (rule, λ next no. absurd cc, has)
       at_row (Some row) (Some role) fits has = by (leaves word role row) refl fits
         where
           by : (left : Option (Role × Role)) → leaves word role row ≡ left → fits_ways roles left row ≡ true →
               IsFreeOrHeld (word_after word (carried_out {T = T} (intent_of (Some row) place.kept) memory) (memory word)) (changed_at (Some row))
               × ((next : OwnPlace) → place_after (led_by {T = T} place (told_at (Some row)) (way_of (Some row) place.kept (told_at (Some row)))) ≡ Some next → ByRole (slice_get roles next.row) (hold_among p (changed_at (Some row))))
+              × Tells (outcome_of (led_by {T = T} place (told_at (Some row)) (way_of (Some row) place.kept (told_at (Some row))))) (hold_among p (changed_at (Some row)))
           by None is fits = absurd cc
           by (Some after) is fits =
               let b = passes row.test place.kept (told_at (Some row)) in
-              let keeps = step_keeps T word row after p place.kept holds memory rule role is has in
-              (keeps.0, λ next to. fits_holds (role_by after b) (slice_get roles next.row) _ (leads_on T roles (role_by after b) place next (told_at (Some row)) (way_by row b).next (fits_way roles after row b fits) to) keeps.1)
+              let keeps = step_keeps T word row after p place.kept holds memory rule role is has in (
+                keeps.0,
+                λ next to. fits_holds (role_by after b) (slice_get roles next.row) _ (leads_on T roles (role_by after b) place next (told_at (Some row)) (way_by row b).next (fits_way roles after row b fits) to) keeps.1,
+                ends_as T roles (role_by after b) place (told_at (Some row)) (way_by row b).next _ (fits_way roles after row b fits) keeps.1,
+              )
       at_row None (Some role) fits has = absurd cc
       at_row (Some row) None fits has = absurd cc
 
@@ -250,8 +260,9 @@ module _ {T : Type 0} (word : Word) (opening : Word → ℕ) (entries : Entries 
           let went = at_row (slice_get rows place.row) (slice_get roles place.row) (fit place.row) has in
           let is : change_by t rows made (Some c) ≡ change_of (way_of (slice_get rows place.row) place.kept told) =
           ap (λ b. if b then change_at rows (stage_of t c) (value_told made) else HoldChange.Keeps) (carried_is_step (t.intent place hold) memory) ∙ ap (λ s. change_at rows s (value_told made)) stage in
-          subst (λ (change : HoldChange). IsFreeOrHeld (word_after word made (memory word)) (changed p change holds) × Here (call_after (step_at t place hold memory).outcome (event p made (step_at t place hold memory).outcome) (Some c)) (hold_among p (changed p change holds)))
-          (sym is) (went.0, goes_on (t.after place told) _ refl went.1)
+          subst (λ (change : HoldChange). IsFreeOrHeld (word_after word made (memory word)) (changed p change holds) × Here (call_after (step_at t place hold memory).outcome (event p made (step_at t place hold memory).outcome) (Some c)) (hold_among p (changed p change holds))
+          × Tells (step_at t place hold memory).outcome (hold_among p (changed p change holds)))
+          (sym is) (went.0, goes_on (t.after place told) _ refl went.1, went.2)
 
     moved :
         (pending : Option (PendingCall T)) (hold : Option HoldKind) (input : Input T) (m : Move T) → fault_at t pending hold input ≡ None → move_of t pending hold memory input ≡ Some m → Moved pending m
@@ -281,16 +292,31 @@ module _ {T : Type 0} (word : Word) (opening : Word → ℕ) (entries : Entries 
       by_party q (inl is) = subst (λ r. Here (call_of r (e ∷ past)) (hold_among r (own_holds t rows (e ∷ past)))) is.1 mine
       by_party q (inr other) = theirs q (λ is. other.1 (sym is))
 
+  -- what the newest event left
+  newest : (z : Arithmetic T) (parties : ℕ) (past : List (Event T)) (e : Event T) → Kept past → IsPast z t parties (e ∷ past) → BegunBy entries e.act (hold_among e.party (own_holds t rows past)) →
+      IsFreeOrHeld (word_in t (e ∷ past) word) (own_holds t rows (e ∷ past)) × Here (call_after e.then e (call_of e.party past)) (hold_among e.party (own_holds t rows (e ∷ past))) × Tells e.then (hold_among e.party (own_holds t rows (e ∷ past)))
+  newest z parties past e before run begins =
+      moved e.party (own_holds t rows past) (word_in t past) before.0 (call_of e.party past) (hold_of t e.party past) run.0.0 (record { act = e.act; outcome = e.then })
+      (fault_at_none t parties past e.party run.0.0 run.0.1.allowed) run.0.1.moved (before.1 e.party) begins
+
   kept_at : (z : Arithmetic T) (parties : ℕ) → opening word ≡ 0 → (past : List (Event T)) → IsPast z t parties past → HaveBegunByHolds entries t rows past → Kept past
   kept_at z parties opens [] run begins = (inl (opens, refl), λ q. tt)
   kept_at z parties opens (e ∷ past) run begins =
       let before = kept_at z parties opens past run.1 begins.1 in
-      let own = moved e.party (own_holds t rows past) (word_in t past) before.0 (call_of e.party past) (hold_of t e.party past) run.0.0 (record { act = e.act; outcome = e.then })
-      (fault_at_none t parties past e.party run.0.0 run.0.1.allowed) run.0.1.moved (before.1 e.party) begins.0 in
+      let own = newest z parties past e before run begins.0 in
       one_more past e before own.0 own.1
 
-  pub one_holder : (z : Arithmetic T) (parties : ℕ) → opening word ≡ 0 → (past : List (Event T)) → IsPast z t parties past → HaveBegunByHolds entries t rows past → IsExclusive (own_holds t rows past)
-  one_holder z parties opens past run begins = exclusive (word_in t past word) (own_holds t rows past) (kept_at z parties opens past run begins).0
-    where
-      exclusive : (w : ℕ) (holds : List Hold) → IsFreeOrHeld w holds → IsExclusive holds
-      exclusive w holds h1 = grind (arith, nat_tests, eqb-true, eqb-false)
+  exclusive : (w : ℕ) (holds : List Hold) → IsFreeOrHeld w holds → IsExclusive holds
+  exclusive w holds h1 = grind (arith, nat_tests, eqb-true, eqb-false)
+
+  tell : (z : Arithmetic T) (parties : ℕ) → opening word ≡ 0 → (past : List (Event T)) → IsPast z t parties past → HaveBegunByHolds entries t rows past → AnswersTell t rows past
+  tell z parties opens [] run begins = tt
+  tell z parties opens (e ∷ past) run begins = (newest z parties past e (kept_at z parties opens past run.1 begins.1) run begins.0).2
+
+module _ {T : Type 0} (z : Arithmetic T) (word : Word) (opening : Word → ℕ) (entries : Entries T) (roles : List Role) (rows : List Row) (parties : ℕ) (past : List (Event T)) (is : IsOwnLock word opening entries roles rows)
+    (run : IsOwnPast z opening entries rows parties past) where
+  pub one_holder : IsExclusive (own_holds (own_table opening entries rows) rows past)
+  one_holder = exclusive word opening entries roles rows is.fit is.begin _ _ (kept_at word opening entries roles rows is.fit is.begin z parties is.opens past run.run run.begins).0
+
+  pub answers_tell : AnswersTell (own_table opening entries rows) rows past
+  answers_tell = tell word opening entries roles rows is.fit is.begin z parties is.opens past run.run run.begins

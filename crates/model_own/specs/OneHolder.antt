@@ -1,8 +1,10 @@
 -- Which rows are those of a lock with one holder at most, by a test of the rows alone. One word tells: it is 0 exactly where nobody has the hold. A row is
 -- made in a role, without the hold or with it, and leads to rows of the role that it leaves.
-use Rattle.std.specs.Prelude.{◌≡◌, ℕ, zero, suc, ◌==◌, ◌&&◌, Bool, true, false, Option, Some, None, List, slice_get, if◌then◌else◌}
-use Rattle.model_own.specs.Names.{same_word, Word, Call, HoldKind, Number, Test, Operation, HoldChange, Next, Row, Role, Entry}
+use Rattle.std.specs.Prelude.{◌≡◌, ℕ, zero, suc, ◌==◌, ◌&&◌, Bool, true, false, is_some, Option, Some, None, List, [], ◌∷◌, slice_get, if◌then◌else◌}
+use Rattle.model_events.specs.declared.event.Then.{Then}
+use Rattle.model_own.specs.Names.{same_word, hold_among, Table, OwnPlace, Answer, Event, Word, Call, HoldKind, Number, Test, Operation, HoldChange, Next, Row, Role, Entry}
 use Rattle.model_own.specs.Rows.{Entries}
+use Rattle.model_own.specs.Holds.{own_holds}
 
 abbrev pub keeps : HoldChange → Bool
 keeps HoldChange.Keeps = true
@@ -73,18 +75,29 @@ is_on word (Operation.Wake wake) = false
 abbrev pub leaves : Word → Role → Row → Option (Role × Role)
 leaves word role row = if is_on word row.operation then works role row.operation row else if_kept role row
 
--- Where there is no row the call ends, in any role.
+abbrev pub is_in : Role → Bool
+is_in Role.In = true
+is_in role = false
+
+abbrev pub is_out : Role → Bool
+is_out Role.Out = true
+is_out role = false
+
+-- Where there is no row the call ends, without the hold.
 abbrev pub fits_role : Role → Option Role → Bool
-fits_role role None = true
+fits_role role None = is_out role
 fits_role role (Some Role.Any) = true
 fits_role Role.Out (Some Role.Out) = true
 fits_role Role.In (Some Role.In) = true
 fits_role role other = false
 
+-- A call is answered `Success` with the hold, and otherwise, or refused, without it.
 abbrev pub fits_next : List Role → Role → Next → Bool
 fits_next roles role (Next.At row) = fits_role role (slice_get roles row)
-fits_next roles role (Next.Refused row seen) = fits_role role (slice_get roles row)
-fits_next roles role other = true
+fits_next roles role (Next.Refused row seen) = is_out role && fits_role role (slice_get roles row)
+fits_next roles role Next.Success = is_in role
+fits_next roles role Next.Interrupted = is_out role
+fits_next roles role Next.Done = is_out role
 
 abbrev pub fits_ways : List Role → Option (Role × Role) → Row → Bool
 fits_ways roles None row = false
@@ -102,7 +115,7 @@ Fit word roles rows = (i : ℕ) → fits_row word roles (slice_get roles i) (sli
 
 -- a call that takes a hold begins in a row that may take it, and one that needs a hold in any
 abbrev pub fits_begin : Bool → Bool → Option Role → Bool
-fits_begin takes_hold needs_hold None = true
+fits_begin takes_hold needs_hold None = takes_hold
 fits_begin takes_hold needs_hold (Some Role.Any) = true
 fits_begin takes_hold needs_hold (Some Role.Out) = takes_hold
 fits_begin takes_hold needs_hold (Some Role.In) = needs_hold
@@ -116,3 +129,19 @@ fits_call roles (Some entry) = fits_entry roles entry
 
 abbrev pub EntriesFit : {T : Type 0} → List Role → Entries T → Type 0
 EntriesFit {T} roles entries = (call : Call T) → fits_call roles (entries call) ≡ true
+
+-- these rows, entries and opening words are those of a lock, by these roles and this word
+pub record IsOwnLock {T : Type 0} (word : Word) (opening : Word → ℕ) (entries : Entries T) (roles : List Role) (rows : List Row) : Type 0 where
+  pub opens : opening word ≡ 0
+  pub fit : Fit word roles rows
+  pub begin : EntriesFit roles entries
+
+abbrev pub Tells : {T : Type 0} → Then T → Option HoldKind → Type 0
+Tells (Then.Answers Answer.Success) hold = is_some hold ≡ true
+Tells (Then.Answers answer) hold = hold ≡ None
+Tells other hold = Unit {0}
+
+-- whoever's call has just been answered `Success` has the hold, and whoever's was answered otherwise has none
+abbrev pub AnswersTell : {T : Type 0} → Table T OwnPlace → List Row → List (Event T) → Type 0
+AnswersTell t rows [] = Unit {0}
+AnswersTell t rows (e ∷ past) = Tells e.then (hold_among e.party (own_holds t rows (e ∷ past)))

@@ -11,7 +11,7 @@ ghost use Rattle.model_own.specs.declared.Row.{Row as ARow};
 ghost use Rattle.model_own.specs.declared.Role.{Role as ARole};
 ghost use Rattle.model_own.specs.Rows.{Entries, number, passes, intent_of, intent_in, way_of, way_in, told_or, led_to, after_in, answered_in, own_table};
 ghost use Rattle.model_own.specs.Holds.{IsOwnPast, own_holds};
-ghost use Rattle.model_own.specs.OneHolder.{asks_for, if_kept, if_ended, if_taken_at_zero, if_ended_at, stores, swaps, exchanges, works, is_on, leaves, fits_role, fits_next, fits_ways, fits_row, Fit, fits_begin, fits_entry, EntriesFit};
+ghost use Rattle.model_own.specs.OneHolder.{asks_for, if_kept, if_ended, if_taken_at_zero, if_ended_at, stores, swaps, exchanges, works, is_on, leaves, is_in, is_out, fits_role, fits_next, fits_ways, fits_row, Fit, fits_begin, fits_entry, IsOwnLock, AnswersTell};
 
 use model_events::WaitAction;
 use model_events::event::{Answer, Wake, Word};
@@ -371,7 +371,7 @@ fn is_on(word: Word, operation: Operation) -> bool
 }
 
 /// The roles in which a row leaves its party where its test passes, and where not; `None` where no lock may have it.
-fn leaves(word: Word, role: Role, row: &Row) -> Option<(Role, Role)>
+pub fn leaves(word: Word, role: Role, row: &Row) -> Option<(Role, Role)>
     ensures { result ≡ leaves word role row.now }
 {
     if is_on(word, row.operation) {
@@ -381,12 +381,24 @@ fn leaves(word: Word, role: Role, row: &Row) -> Option<(Role, Role)>
     }
 }
 
+fn is_in(role: Role) -> bool
+    ensures { result ≡ is_in role }
+{
+    matches!(role, Role::In)
+}
+
+fn is_out(role: Role) -> bool
+    ensures { result ≡ is_out role }
+{
+    matches!(role, Role::Out)
+}
+
 fn fits_role(role: Role, at: Option<Role>) -> bool
     ensures { result ≡ fits_role role at }
 {
     matches!(
         (role, at),
-        (_, None | Some(Role::Any)) | (Role::Out, Some(Role::Out)) | (Role::In, Some(Role::In))
+        (_, Some(Role::Any)) | (Role::Out, None | Some(Role::Out)) | (Role::In, Some(Role::In))
     )
 }
 
@@ -400,8 +412,10 @@ fn fits_next(roles: &[Role], role: Role, next: Next) -> bool
     ensures { result ≡ fits_next roles.now role next }
 {
     match next {
-        Next::At(row) | Next::Refused(row, _) => fits_role(role, role_at(roles, row)),
-        Next::Success | Next::Interrupted | Next::Done => true,
+        Next::At(row) => fits_role(role, role_at(roles, row)),
+        Next::Refused(row, _) => is_out(role) && fits_role(role, role_at(roles, row)),
+        Next::Success => is_in(role),
+        Next::Interrupted | Next::Done => is_out(role),
     }
 }
 
@@ -426,8 +440,8 @@ fn fits_at(word: Word, roles: &[Role], rows: &[Row], at: usize) -> bool
     }
 }
 
-/// Whether these rows are those of a lock with one holder at most, by these roles and this word, whatever else they do. `false` says nothing:
-/// other roles or another word may show it.
+/// Whether these rows are those of a lock with one holder at most, whose answers tell who holds it, by these roles and this word, whatever else
+/// they do. `false` says nothing: other roles or another word may show it.
 pub fn is_lock(word: Word, roles: &[Role], rows: &[Row]) -> bool
     ensures { result ≡ true → Fit word roles.now rows.now }
 {
@@ -447,16 +461,17 @@ pub fn fits_entry(roles: &[Role], entry: &Entry) -> bool
     ensures { result ≡ fits_entry roles.now entry.now }
 {
     match role_at(roles, entry.row) {
-        None | Some(Role::Any) => true,
-        Some(Role::Out) => entry.takes_hold,
+        Some(Role::Any) => true,
+        None | Some(Role::Out) => entry.takes_hold,
         Some(Role::In) => entry.needs_hold,
     }
 }
 
 /// A lock whose rows and entries fit, and whose word opens with 0, has one holder at most, at every prefix of every run of any number of
-/// parties. Says so, and does nothing.
+/// parties. Whoever's call is answered `Success` has the hold then, and whoever's is answered otherwise has none. Says so, and does nothing.
 pub fn any_such_lock_has_one_holder<T>()
-    ensures { (z : Arithmetic T) (word : AWord) (opening : AWord → ℕ) (entries : Entries T) (roles : List ARole) (rows : List ARow) (parties : ℕ) (past : List (AnEvent T)) →
-        opening word ≡ 0 → Fit word roles rows → EntriesFit roles entries → IsOwnPast z opening entries rows parties past →
-        IsExclusive (own_holds (own_table opening entries rows) rows past) }
+    ensures one { (z : Arithmetic T) (word : AWord) (opening : AWord → ℕ) (entries : Entries T) (roles : List ARole) (rows : List ARow) (parties : ℕ) (past : List (AnEvent T)) →
+        IsOwnLock word opening entries roles rows → IsOwnPast z opening entries rows parties past → IsExclusive (own_holds (own_table opening entries rows) rows past) }
+    ensures answers { (z : Arithmetic T) (word : AWord) (opening : AWord → ℕ) (entries : Entries T) (roles : List ARole) (rows : List ARow) (parties : ℕ) (past : List (AnEvent T)) →
+        IsOwnLock word opening entries roles rows → IsOwnPast z opening entries rows parties past → AnswersTell (own_table opening entries rows) rows past }
 {}

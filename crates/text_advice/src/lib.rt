@@ -9,6 +9,7 @@ mod failed;
 mod items;
 mod near;
 mod objects;
+mod own;
 pub mod question;
 mod repeat;
 mod sentence;

@@ -8,7 +8,7 @@ use model_own::HoldChange::{Ends, Keeps, Takes};
 use model_own::Next::{At, Done, Refused, Success};
 use model_own::Number::{Is, Kept};
 use model_own::Operation::{Add, Exchange, Load, Store, Swap};
-use model_own::Role::{Any, In, Out};
+use model_own::Role::{In, Out};
 use model_own::{
     Entry, HoldChange, Next, Operation, OwnPlace, Role, Row, Test, Way, after, answered,
     fits_entry, intent, is_lock, way_at,
@@ -108,11 +108,11 @@ fn with(at: usize, other: Row) -> [Row; 3] {
 
 #[test]
 fn published_locks_pass() -> Result<(), Fail> {
-    let roles = [Out, Out, Out, In, Any];
+    let roles = [Out, Out, Out, In, Out];
     let told = [
-        is_lock(Word::State, &[Out, In, Any], &test_and_set()),
+        is_lock(Word::State, &[Out, In, Out], &test_and_set()),
         is_lock(Word::State, &roles, &test_first()),
-        is_lock(Word::State, &[Out, Out, In, Any], &three_states()),
+        is_lock(Word::State, &[Out, Out, In, Out], &three_states()),
     ];
     if told == [true; 3] {
         Ok(())
@@ -123,11 +123,17 @@ fn published_locks_pass() -> Result<(), Fail> {
 
 #[test]
 fn wrong_locks_fail() -> Result<(), Fail> {
-    let roles = [Out, In, Any];
+    let roles = [Out, In, Out];
     let by_a_look = row(
         Load(Word::State),
         ZERO,
         (Takes(Write), Success, Keeps, At(0)),
+    );
+    let only_says_so = row(Load(Word::State), ZERO, (Keeps, Success, Keeps, At(0)));
+    let refused_holding = row(
+        Store(Word::State, Is(1)),
+        ZERO,
+        (Keeps, Refused(1, Is(1)), Keeps, Refused(1, Is(1))),
     );
     let by_a_failure = row(
         Exchange(Word::State, Is(0), Is(1)),
@@ -142,15 +148,17 @@ fn wrong_locks_fail() -> Result<(), Fail> {
     let frees_twice = row(Store(Word::State, Is(0)), ZERO, (Ends, At(1), Ends, At(1)));
     let told = [
         is_lock(Word::State, &roles, &with(0, by_a_look)),
+        is_lock(Word::State, &roles, &with(0, only_says_so)),
         is_lock(Word::State, &roles, &with(0, by_a_failure)),
         is_lock(Word::State, &roles, &with(0, frees_first)),
         is_lock(Word::State, &roles, &with(1, frees_twice)),
+        is_lock(Word::State, &roles, &with(1, refused_holding)),
         // by another word, by too few roles, by the wrong ones
         is_lock(Word::Counter, &roles, &test_and_set()),
         is_lock(Word::State, &[Out, In], &test_and_set()),
-        is_lock(Word::State, &[In, In, Any], &test_and_set()),
+        is_lock(Word::State, &[In, In, Out], &test_and_set()),
     ];
-    if told == [false; 7] {
+    if told == [false; 9] {
         Ok(())
     } else {
         Err("a wrong lock passes")?

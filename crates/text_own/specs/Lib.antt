@@ -1,0 +1,5 @@
+pub mod Names
+pub mod Row
+pub mod Table
+pub mod Judge
+pub mod Answer
