@@ -1,6 +1,7 @@
 # Each question of examples/explore is answered: NAME.txt has beside it the answer (NAME.out), NAME.err for standard error where it is not
 # empty, and NAME.status where the status is not 0. Each text in an answer is played by sync-play, and prints what its line says. And
-# questions that are made at random are answered as tools/brute.py answers them, which knows nothing but the pages.
+# questions that are made at random are answered as tools/brute.py answers them, which knows nothing but the pages; of locks of one's own that are made
+# so none that is said to be proved goes wrong, by tools/own_locks.py.
 test_explore() {
     local text
     source tools/test_examples.sh
@@ -17,4 +18,6 @@ test_explore() {
     judge_line "tools/brute.py" 0 "200 questions, 0 wrong" ""
     attempt python3 tools/brute.py --clients 300 1
     judge_line "tools/brute.py, of clients" 0 "300 questions, 0 wrong" ""
+    attempt python3 tools/own_locks.py 300 1
+    judge_line "tools/own_locks.py" 0 "300 locks, PROVED proved, FAULTY faulty, 0 wrong" ""
 }
