@@ -13,7 +13,7 @@ ghost use Rattle.explore_client.specs.Report.{NoneIsMissing, IsNever};
 ghost use Rattle.explore_text.specs.declared.report.Scope.TheVariants as scopes;
 
 use draw_text::picture::draw_text;
-use explore_client::report::client_text;
+use explore_client::run::answer;
 use explore_client::unanswered::Unanswered;
 use explore_search::watch::Unwatched;
 use explore_text::report::Scope;
@@ -197,12 +197,12 @@ pub extern "C" fn page_explore(
 {
     begin(told);
     let mut watch = Unwatched;
-    match client_text(alloc, text, false, &mut watch) {
-        Ok(answer) => {
-            told.status = u64::from(answer.verdict.status());
-            told.all = all_of(answer.scope);
-            told.out = put(out, &answer.bytes);
-            told.error = put_lost(alloc, answer.lost, error);
+    match answer(alloc, text, false, &mut watch) {
+        Ok(found) => {
+            told.status = u64::from(found.verdict.status());
+            told.all = all_of(found.scope);
+            told.out = put(out, &found.bytes);
+            told.error = put_lost(alloc, found.lost, error);
         }
         Err(fault) => {
             let unanswered = Unanswered::of_question(alloc, text, fault);
