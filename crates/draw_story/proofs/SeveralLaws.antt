@@ -1,17 +1,18 @@
 -- A story of a text of several objects has the first rows of its trace, and the last line of each object.
-use Rattle.draw_story.proofs.Names.{◌≡◌, ℕ, List, [], ◌++◌, map, Option, Some, None, refl, sym, ap, subst, ◌∙◌, lines_of, string_bytes, Row, entries, shown_of, shown_at, kept, left_out}
+use Rattle.draw_story.proofs.Names.{◌≡◌, ℕ, List, [], ◌++◌, map, Option, Some, None, Ok, refl, sym, ap, subst, ◌∙◌, lines_of, string_bytes, Row, entries, shown_of, shown_at, kept, left_out}
 use Rattle.std.specs.Str.Lossy.{utf8_lossy}
 use Rattle.model_events.specs.Exports.{Arithmetic, after}
 use Rattle.model_events.specs.declared.event.Object.{Object}
 use Rattle.model_room.specs.Room.{Seating, StandsAt}
 use Rattle.model_room.specs.Runs.{all_of}
 use Rattle.model_room.specs.declared.event.RoomEvent.{RoomEvent}
+use Rattle.text_lines.specs.Fault.{◌>>=◌}
 use Rattle.text_lines.specs.Numerals.{Numerals}
 use Rattle.text_lines.specs.declared.fault.FaultyLine.{FaultyLine}
 use Rattle.sync_play.specs.Print.{printed}
 use Rattle.sync_play.specs.WalkOutput.{output_unless}
-use Rattle.text_room.specs.Output.{events_in, last_lines}
-use Rattle.text_room.specs.Walk.{Opened, Walk, nothing}
+use Rattle.text_room.specs.Output.{events_in, last_lines, room_output}
+use Rattle.text_room.specs.Walk.{Opened, Walk, nothing, opened}
 unfoldable use Rattle.text_room.specs.Walk.{go_walk}
 use Rattle.text_room.specs.declared.walk.Rest.{Rest}
 use Rattle.text_trace.specs.Each.{for_each}
@@ -25,8 +26,7 @@ use Rattle.draw_story.proofs.StoryLaws.{leaves, tells}
 
 -- The names and objects that are played are those that the first lines name, and what is left are the lines after these.
 module _ {T : Type 0} (z : Arithmetic T) (numerals : Numerals T) (setting : Setting T) (found : Opened T) (rest : Rest T) (names : map (λ name. name.now) setting.names.now ≡ found.names) (shown : map string_bytes setting.shown.now ≡ map utf8_lossy found.names)
-  (objects : setting.objects.now ≡ found.objects) (parties : setting.parties ≡ found.parties) (left : rest.left ≡ nothing) (line : found.line ≡ rest.line) (lines : found.lines ≡ lines_of rest.lines.now) where
-
+    (objects : setting.objects.now ≡ found.objects) (parties : setting.parties ≡ found.parties) (left : rest.left ≡ nothing) (line : found.line ≡ rest.line) (lines : found.lines ≡ lines_of rest.lines.now) where
   walk_same : walk_in z numerals setting [] rest ≡ walk_of z numerals found
   unfolding go_walk
   walk_same = rw (names, objects, parties, left, line, lines) refl
@@ -57,3 +57,7 @@ module _ {T : Type 0} (z : Arithmetic T) (numerals : Numerals T) (setting : Sett
         last = ends (after (events_in walk.steps) []) stands ∙ ap (λ (w : Walk T). last_lines z numerals 0 (map string_bytes setting.shown.now) setting.objects.now (after (events_in w.steps) [])) walk_same ∙ rw (shown, objects) refl;
         played = (bytes, output_is none rows told None added faultless);
       }
+
+-- the output of a text is that of what its first lines name
+pub output_opened : {T : Type 0} (z : Arithmetic T) (numerals : Numerals T) (lines : List (List ℕ)) (found : Opened T) → opened numerals lines ≡ Ok found → output_of z numerals found ≡ room_output z numerals lines
+output_opened z numerals lines found is = sym (ap (λ r. r >>= λ found. output_of z numerals found) is)

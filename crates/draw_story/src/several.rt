@@ -12,7 +12,8 @@ ghost use Rattle.text_room.specs.Output.{last_lines, room_output};
 ghost use Rattle.text_room.specs.Walk.{nothing, told};
 ghost use Rattle.text_trace.specs.Each.{for_each};
 ghost use Rattle.text_trace.specs.Several.{rows_of};
-ghost use Rattle.draw_story.specs.Story.{object_shown, object_at, output_of, left_out, HasTold, HasOutput, IsOfOpened, EndsEach, IsStoryOf, OfOpened};
+ghost use Rattle.draw_story.specs.Story.{object_shown, object_at, output_of, HasTold, HasOutput, IsOfOpened, EndsEach, IsStoryOf, OfOpened};
+ghost use Rattle.draw_story.specs.Story as meaning;
 
 use crate::story::{MOST_STEPS, Story, StoryObject, object_of, story_of};
 use model_room::room::Room;
@@ -108,15 +109,7 @@ fn play_group<T: TextInteger>(
     )? {
         None => {
             let last = last_lines(alloc, setting.shown, &room)?;
-            Ok(story_of(
-                alloc,
-                text,
-                objects,
-                setting.parties,
-                &titles,
-                &rows,
-                last,
-            )?)
+            Ok(story_of(alloc, text, objects, setting.parties, &titles, &rows, last)?)
         }
         Some(found) => Err(TextFault::from(found)),
     }
@@ -126,11 +119,12 @@ fn play_group<T: TextInteger>(
 pub fn play<T: TextInteger>(alloc: Global, text: &[u8]) -> Result<Story<T>, TextFault>
     ensures told { IfOk result (λ story. HasTold (rows_of T.arithmetic T.numerals (lines_of text.now)) story) }
     ensures opened { IfOk result (λ story. OfOpened T.numerals (lines_of text.now) (λ found. IsOfOpened T.arithmetic found story)) }
-    ensures left_out { IfOk result (λ story. story.left_out ≡ left_out (rows_of T.arithmetic T.numerals (lines_of text.now)).rows) }
+    ensures left_out { IfOk result (λ story. story.left_out ≡ meaning.left_out (rows_of T.arithmetic T.numerals (lines_of text.now)).rows) }
     ensures last { IfOk result (λ story. OfOpened T.numerals (lines_of text.now) (λ found. EndsEach T.arithmetic T.numerals found story)) }
     ensures played { OnOk result (HasOutput (room_output T.arithmetic T.numerals (lines_of text.now))) }
     ensures fault { IfErr result (λ e. IsFaultOf e (room_output T.arithmetic T.numerals (lines_of text.now))) }
 {
     let (group, mut rest) = open::<T, Global>(alloc, text)?;
-    play_group(alloc, text, &group, &mut rest)
+    let story = play_group(alloc, text, &group, &mut rest)?;
+    Ok(story)
 }

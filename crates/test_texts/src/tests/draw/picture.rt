@@ -276,7 +276,11 @@ const FAULTY: [(&[u8], u64, LineFault); 6] = [
     (b"mutex 1\n\n1 lock 2\n", 3, LineFault::BadLine),
     (b"mutex 1\n1 lock\n1 run\n1 run\n", 4, LineFault::Idle),
     (b"parties 1\nlet one mutx\n", 2, LineFault::NoObject),
-    (b"parties 1\nlet one mutex\n1 one.lock\n1 one.lock\n", 4, LineFault::Busy),
+    (
+        b"parties 1\nlet one mutex\n1 one.lock\n1 one.lock\n",
+        4,
+        LineFault::Busy,
+    ),
 ];
 
 /// The exit status where the text of a run has a fault, and how many bytes are written.
