@@ -34,12 +34,11 @@ module _ {T : Type 0} (z : Arithmetic T) (numerals : Numerals T) (setting : Sett
   rows_same : rows_from z numerals setting rest ≡ rows_opened z numerals found
   rows_same = rows_left z numerals setting found rest names shown objects parties left line lines
 
-  bytes : List ℕ
+  abbrev bytes : List ℕ
   bytes = printed numerals (all_of (events_in (walk_of z numerals found).steps)) ++ last_lines z numerals 0 found.names found.objects (after (events_in (walk_of z numerals found).steps) [])
 
   -- the output is that of the walk, unless it has a fault
   pub output_is : (none rows : List (Row T)) (told fault : Option FaultyLine) → HasAdded z numerals (Some 2000) setting [] rest none rows told → told ≡ fault → output_of z numerals found ≡ output_unless fault bytes
-  unfolding bytes
   output_is none rows told fault added is = ap (λ (f : Option FaultyLine). output_unless f bytes) (ap (λ (w : Walk T). w.fault) (sym walk_same) ∙ sym added.1 ∙ is)
 
   pub is_story : (none rows all : List (Row T)) (told : Option FaultyLine) (room : Seating T) (titles : List (List ℕ)) (story : Story T) → told ≡ None → none ≡ [] → HasAdded z numerals (Some 2000) setting [] rest none rows told → HasPlayed z numerals setting [] rest room told → all ≡ rows →
