@@ -2,7 +2,6 @@
 use Rattle.draw_story.proofs.Names.{◌≡◌, ℕ, List, [], ◌++◌, map, Option, Some, None, Ok, refl, sym, ap, subst, ◌∙◌, lines_of, string_bytes, Row, entries, shown_of, shown_at, kept, left_out}
 use Rattle.std.specs.Str.Lossy.{utf8_lossy}
 use Rattle.model_events.specs.Exports.{Arithmetic, after}
-use Rattle.model_events.specs.declared.event.Object.{Object}
 use Rattle.model_room.specs.Room.{Seating, StandsAt}
 use Rattle.model_room.specs.Runs.{all_of}
 use Rattle.model_room.specs.declared.event.RoomEvent.{RoomEvent}
@@ -17,10 +16,10 @@ unfoldable use Rattle.text_room.specs.Walk.{go_walk}
 use Rattle.text_room.specs.declared.walk.Rest.{Rest}
 use Rattle.text_trace.specs.Each.{for_each}
 use Rattle.text_trace.specs.Several.{titles_of, cells_in, walk_in, HasAdded, HasPlayed, rows_from, rows_opened}
-use Rattle.text_trace.specs.Trace.{RowsAndFault, unless_fault}
+use Rattle.text_trace.specs.Trace.{RowsAndFault}
 use Rattle.text_trace.specs.declared.several.Setting.{Setting}
 use Rattle.text_trace.proofs.SeveralLaws.{rows_left}
-use Rattle.draw_story.specs.Story.{HasTold, object_shown, object_at, shown_names, walk_of, output_of, IsStoryOf}
+use Rattle.draw_story.specs.Story.{HasTold, object_shown, object_at, walk_of, output_of, IsStoryOf}
 use Rattle.draw_story.specs.declared.story.Story.{Story}
 use Rattle.draw_story.proofs.StoryLaws.{leaves, tells}
 

@@ -1,4 +1,4 @@
-use Rattle.draw_story.proofs.Names.{◌≡◌, ℕ, List, [], ◌∙◌, refl, sym, ap, map, string_bytes}
+use Rattle.draw_story.proofs.Names.{ℕ, List, [], ◌∙◌, refl, sym, ap, map, string_bytes}
 use Rattle.std.proofs.Common.{Vec, Global, Bor}
 use Rattle.std.specs.Str.Lossy.{utf8_lossy}
 use Rattle.std.proofs.lemmas.Simd.{map-map}
