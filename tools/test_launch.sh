@@ -162,7 +162,7 @@ sync-play: that gave no answer within its limits (a minute, 1 MiB of output): bu
 tells_usage() {
     local label="--help" text word
     attempt "$top/sync-play" --help </dev/null
-    for word in $(sed -E '1s/ .*//; 1!s/^[^ ]* ([^ ]*).*/\1/' -s -- examples/*.txt | sort -u); do
+    for word in $(sed -E '1s/ .*//; s/^let [^ ]* ([^ ]*).*/\1/; 2,$s/^[^ ]* ([^ .]*\.)?([^ ]*).*/\2/' -s -- examples/*.txt | sort -u); do
         if ! grep -qwe "$word" -- "$room/out"; then
             fail "$label" "it does not name $word"
             return

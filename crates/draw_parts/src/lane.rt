@@ -108,7 +108,7 @@ fn draw_hold(
         picture,
         "soft end",
         left.saturating_sub(4),
-        top + 8,
+        top + 16,
         name,
     )
 }

@@ -1,11 +1,13 @@
 -- What a picture is, as bytes.
-use Rattle.std.specs.Prelude.{◌≡◌, ℕ, List, ◌++◌, map, codes, string_bytes}
+use Rattle.std.specs.Prelude.{◌≡◌, ℕ, Bool, List, ◌++◌, map, codes, string_bytes, if◌then◌else◌}
 use Rattle.draw_markup.specs.declared.name.Tag.{Tag}
 use Rattle.draw_markup.specs.Tree.{IsElement}
 use Rattle.model_events.specs.Arithmetic.{Arithmetic}
 use Rattle.text_lines.specs.Lexer.{lines_of}
 use Rattle.text_lines.specs.Numerals.{Numerals}
 use Rattle.text_lines.specs.ValueTypes.{values_in}
+use Rattle.text_room.specs.Output.{begins_several}
+use Rattle.text_trace.specs.Several as several
 use Rattle.text_trace.specs.Trace.{RowsAndFault, rows_of}
 use Rattle.draw_story.specs.declared.story.StoryStep.{StoryStep}
 use Rattle.draw_story.specs.Story.{kept}
@@ -23,9 +25,10 @@ step_titles steps = map (λ step. string_bytes step.title) steps
 abbrev pub IsPictureOfRows : {T : Type 0} → RowsAndFault T → List ℕ → Type 0
 IsPictureOfRows told bytes = IsPicture (map (title_words told.titles) (kept told.rows)) bytes
 
-abbrev pub IsTypedPicture : {T : Type 0} → Arithmetic T → Numerals T → List (List ℕ) → List ℕ → Type 0
-IsTypedPicture z numerals lines bytes = IsPictureOfRows (rows_of z numerals lines) bytes
+-- the rows of a text of several objects, or of one
+abbrev pub rows_in : {T : Type 0} → Arithmetic T → Numerals T → Bool → List (List ℕ) → RowsAndFault T
+rows_in z numerals is_several lines = if is_several then several.rows_of z numerals lines else rows_of z numerals lines
 
 -- a picture of a text, by the type of its values
 unfoldable pub IsPictureOf : List ℕ → List ℕ → Type 0
-IsPictureOf text bytes = IsTypedPicture (values_in text).arithmetic (values_in text).numerals (lines_of text) bytes
+IsPictureOf text bytes = IsPictureOfRows (rows_in (values_in text).arithmetic (values_in text).numerals (begins_several (lines_of text)) (lines_of text)) bytes

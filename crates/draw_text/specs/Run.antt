@@ -2,7 +2,7 @@
 use Rattle.std.specs.Prelude.{ℕ, List, take, Option}
 use Rattle.std.specs.Io.KnownBytes.{Appends}
 use Rattle.sync_play.specs.Run.{HasRead}
-use Rattle.sync_play.specs.Text.{output_of}
+use Rattle.text_room.specs.Output.{output_of}
 use Rattle.draw_text.specs.Picture.{IsPictureOf}
 use Rattle.draw_story.specs.Story.{HasOutput}
 

@@ -10,4 +10,4 @@
 pub mod picture;
 pub mod run;
 
-pub use draw_story::{story, title};
+pub use draw_story::{several, story, title};

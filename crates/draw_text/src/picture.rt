@@ -2,10 +2,13 @@
 ghost use Rattle.std.specs.Prelude.{◌≡◌, OnOk, IfOk, IfErr, string_bytes};
 ghost use Rattle.text_lines.specs.Fault.{IsFaultOf};
 ghost use Rattle.text_lines.specs.Lexer.{lines_of};
-ghost use Rattle.sync_play.specs.Text.{typed_output, output_of};
+ghost use Rattle.sync_play.specs.Text.{typed_output};
+ghost use Rattle.text_room.specs.Output.{output_of, room_output};
+ghost use Rattle.text_trace.specs.Several as several;
 ghost use Rattle.draw_markup.specs.Group.{titles_of};
 ghost use Rattle.draw_story.specs.Story.{HasOutput};
-ghost use Rattle.draw_text.specs.Picture.{step_titles, IsPicture, IsTypedPicture, IsPictureOf};
+ghost use Rattle.text_trace.specs.Trace as single;
+ghost use Rattle.draw_text.specs.Picture.{step_titles, IsPicture, IsPictureOfRows, IsPictureOf};
 
 use draw_layout::layout::Layout;
 use draw_markup::group::Group;
@@ -15,11 +18,13 @@ use draw_markup::opening::Opening;
 use draw_parts::foot::{draw_foot, height_of};
 use draw_parts::ground::draw_ground;
 use draw_parts::step::draw_inside;
+use draw_story::several;
 use draw_story::story::{Story, StoryStep, play};
 use std::alloc::{AllocError, Global};
 use text_lines::by_value_type;
 use text_lines::fault::TextFault;
 use text_lines::integer::TextInteger;
+use text_room::text::begins_several;
 
 /// Draws a step, with the row of the trace as its title.
 fn draw_step<'s, T: TextInteger>(
@@ -129,9 +134,9 @@ fn document(
     Ok(bytes.into_bytes())
 }
 
-/// The picture of a text whose values are of this type.
+/// The picture of a text of one object whose values are of this type.
 fn draw_typed<T: TextInteger>(alloc: Global, text: &[u8]) -> Result<Vec<u8>, TextFault>
-    ensures drawn { IfOk result (λ bytes. IsTypedPicture T.arithmetic T.numerals (lines_of text.now) bytes.items) }
+    ensures drawn { IfOk result (λ bytes. IsPictureOfRows (single.rows_of T.arithmetic T.numerals (lines_of text.now)) bytes.items) }
     ensures played { OnOk result (HasOutput (typed_output T.arithmetic T.numerals (lines_of text.now))) }
     ensures fault { IfErr result (λ e. IsFaultOf e (typed_output T.arithmetic T.numerals (lines_of text.now))) }
 {
@@ -140,11 +145,26 @@ fn draw_typed<T: TextInteger>(alloc: Global, text: &[u8]) -> Result<Vec<u8>, Tex
     Ok(picture)
 }
 
-/// The picture of a text, or the fault of its first faulty line.
+/// The picture of a text of several objects whose values are of this type.
+fn draw_several<T: TextInteger>(alloc: Global, text: &[u8]) -> Result<Vec<u8>, TextFault>
+    ensures drawn { IfOk result (λ bytes. IsPictureOfRows (several.rows_of T.arithmetic T.numerals (lines_of text.now)) bytes.items) }
+    ensures played { OnOk result (HasOutput (room_output T.arithmetic T.numerals (lines_of text.now))) }
+    ensures fault { IfErr result (λ e. IsFaultOf e (room_output T.arithmetic T.numerals (lines_of text.now))) }
+{
+    let story = several::play::<T>(alloc, text)?;
+    let picture = draw(alloc, &story)?;
+    Ok(picture)
+}
+
+/// The picture of a text of one object or of several, or the fault of its first faulty line.
 pub fn draw_text(alloc: Global, text: &[u8]) -> Result<Vec<u8>, TextFault>
     ensures drawn { IfOk result (λ bytes. IsPictureOf text.now bytes.items) }
     ensures played { OnOk result (HasOutput (output_of text.now)) }
     ensures fault { IfErr result (λ e. IsFaultOf e (output_of text.now)) }
 {
-    by_value_type!(text, draw_typed(alloc, text))
+    if begins_several(text) {
+        by_value_type!(text, draw_several(alloc, text))
+    } else {
+        by_value_type!(text, draw_typed(alloc, text))
+    }
 }

@@ -1,7 +1,7 @@
 //! Draws the text that a reader brings.
 ghost use Rattle.std.specs.Prelude.{◌≡◌, ◌≢◌, OnOk, IfErr};
 ghost use Rattle.text_advice.specs.Failed.{AdvisesOnText};
-ghost use Rattle.sync_play.specs.Run.{TellsFault};
+ghost use Rattle.text_room.specs.Run.{TellsFault};
 ghost use Rattle.draw_text.specs.Run.{HasDrawn, HasBegun};
 
 use crate::picture::draw_text;

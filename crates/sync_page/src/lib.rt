@@ -5,7 +5,7 @@
 #![tactic(auto)]
 
 ghost use Rattle.std.specs.Prelude.{◌≡◌, ◌≤◌, ◌<◌, length, take, None, Ok, IsErr};
-ghost use Rattle.sync_play.specs.Text.{output_of};
+ghost use Rattle.text_room.specs.Output.{output_of};
 ghost use Rattle.text_lines.specs.Fault.{status_of};
 ghost use Rattle.text_trace.specs.Whole.{trace_of};
 ghost use Rattle.draw_text.specs.Picture.{IsPictureOf};
@@ -19,9 +19,9 @@ use explore_search::watch::Unwatched;
 use explore_text::report::Scope;
 use std::alloc::{AllocError, Global};
 use std::fmt;
-use sync_play::play_text;
 use text_advice::Failed;
 use text_lines::fault::{RunFault, TextFault};
+use text_room::play_text;
 use text_trace::trace::trace_text;
 
 /// What an export tells beside what it writes.

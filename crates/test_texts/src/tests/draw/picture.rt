@@ -1,5 +1,6 @@
 use draw_text::picture::draw_text;
 use draw_text::run::run;
+use draw_text::several;
 use draw_text::story::{Story, StoryStep, play};
 use std::alloc::{AllocError, Global};
 use std::str;
@@ -170,6 +171,61 @@ fn an_atomic_has_a_band_for_its_value(rt: HostRuntime) {
     assert_eq!(rt; wrong_words(rt.alloc(), &VALUES), None);
 }
 
+/// Each of two parties has one of two locks.
+const LOCKS: &str =
+    "parties 2\nlet one mutex\nlet other mutex\n1 one.lock\n1 run\n2 other.lock\n2 run\n";
+
+/// Writes the object of a step, by its name, and whether the step's party holds it then.
+fn push_place(
+    out: &mut String,
+    story: &Story<u64>,
+    step: &StoryStep<u64>,
+) -> Result<(), AllocError> {
+    if let Some(object) = story.objects.get(step.object) {
+        let name = object.name.as_str();
+        let holds = step.hold.is_some();
+        write!(out, "{name} {holds} / ")?;
+    }
+    Ok(())
+}
+
+/// The objects of the steps of a text of several, and its last lines; empty where it has a fault.
+fn places_of(alloc: Global, text: &str) -> Result<String, AllocError> {
+    let mut out = String::new(alloc);
+    if let Ok(story) = several::play::<u64>(alloc, text.as_bytes()) {
+        for step in &story.steps {
+            push_place(&mut out, &story, step)?;
+        }
+        out.push_str(story.last.as_str())?;
+    }
+    Ok(out)
+}
+
+#[test]
+fn each_step_of_several_is_at_its_object(rt: HostRuntime) -> Result<(), Fail> {
+    let places = places_of(rt.alloc(), LOCKS)?;
+    assert_eq!(rt;
+        places.as_str(),
+        "one false / one true / other false / other true / one word 1 failed 0\nother word 1 failed 0\n"
+    );
+    Ok(())
+}
+
+/// Words of the picture of several objects, each behind its name.
+const NAMED: [(&str, &str, bool); 6] = [
+    (LOCKS, ">one: lock</text>", true),
+    (LOCKS, ">other: lock</text>", true),
+    (LOCKS, ">other.lock</text>", true),
+    (LOCKS, "<title>holds one, alone</title>", true),
+    (LOCKS, ">other word 1 failed 0</text>", true),
+    (LOCKS, "one.word 1, other.word 0, holds 1 one,", true),
+];
+
+#[test]
+fn a_picture_names_each_object(rt: HostRuntime) {
+    assert_eq!(rt; wrong_words(rt.alloc(), &NAMED), None);
+}
+
 /// The title of a group, if the line begins with one.
 fn title_in(line: &str) -> Option<&str> {
     let (title, _) = line.strip_prefix("<g><title>")?.split_once("</title>")?;
@@ -214,11 +270,17 @@ step 10006, line 7, party 2: exchange 0 for 1, found 1, failed; word 1, holds 1,
 }
 
 /// Texts with a fault, and the line that has it.
-const FAULTY: [(&[u8], u64, LineFault); 4] = [
+const FAULTY: [(&[u8], u64, LineFault); 6] = [
     (b"", 1, LineFault::NoObject),
     (b"mutex 0\n", 1, LineFault::BadNumber),
     (b"mutex 1\n\n1 lock 2\n", 3, LineFault::BadLine),
     (b"mutex 1\n1 lock\n1 run\n1 run\n", 4, LineFault::Idle),
+    (b"parties 1\nlet one mutx\n", 2, LineFault::NoObject),
+    (
+        b"parties 1\nlet one mutex\n1 one.lock\n1 one.lock\n",
+        4,
+        LineFault::Busy,
+    ),
 ];
 
 /// The exit status where the text of a run has a fault, and how many bytes are written.
