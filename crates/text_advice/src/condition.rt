@@ -5,7 +5,8 @@ use crate::objects::{noun, terms_of};
 use crate::variables::{add_variables, has_variable, named};
 use crate::words::{
     Added, Spot, Told, before_word, cut_word, front_of, has, has_mark, insert, is_no_number,
-    is_odd_number, mean, no_number, put, run_of, say, second_spot, show, swap,
+    is_odd_number, mean, no_number, none_here, number_in, put, run_of, say, second_spot, show,
+    swap,
 };
 use text_lines::lexer::is;
 
@@ -69,6 +70,8 @@ fn of_stranger(out: &mut Vec<u8>, at: Spot<'_>) -> Told {
         out.extend_from_slice(
             b"a condition has no relation: let an item look, as `if x > 2 set bad 1`, and ask for bad 1",
         )?;
+    } else if has(b"party thread process", at.word) {
+        none_here(out, at)?;
     } else if has(b"& &&", at.word) {
         put(out, b"`and` joins terms", at, b"and")?;
     } else if has_mark(at.word, b"()") {
@@ -99,7 +102,10 @@ fn no_term(out: &mut Vec<u8>, at: Spot<'_>) -> Added {
     let (variable, _) = named(at.question, at.word, true);
     let term = nearest(terms_of(at.object), at.word);
     let of_all = nearest(OF_ALL, at.word);
-    if is_odd_number(at.word) {
+    let number = number_in(at.word);
+    if !number.is_empty() {
+        put(out, b"a party's number is a word of its own", at, number)
+    } else if is_odd_number(at.word) {
         no_number(out, at.word)
     } else if !variable.is_empty() {
         mean(out, at, variable)

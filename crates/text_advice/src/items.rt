@@ -152,20 +152,25 @@ fn next_token(left: &[u8]) -> Option<(&[u8], &[u8])> {
 }
 
 /// The name that this word nearly is, among those with which items begin. Empty where there is none.
-fn near_item(at: Spot<'_>) -> &'static [u8] {
+fn near_item<'a>(at: Spot<'a>) -> &'a [u8] {
     match nearest_call(at.object, at.word) {
         [] => nearest(WORDS, at.word),
         name => name,
     }
 }
 
-/// The relation and the number that say as much as `>=`, or `<=`, and this number of one digit. `None` where it has more.
-fn bound(number: &[u8], up: bool) -> Option<[u8; 4]> {
-    match number {
-        [digit] if up && b'0' <= *digit && *digit < b'9' => Some([b' ', b'<', b' ', *digit + 1]),
-        [digit] if !up && b'0' < *digit && *digit <= b'9' => Some([b' ', b'>', b' ', *digit - 1]),
-        _ => None,
+/// The number after this one, or, where that is not asked, before it. Empty where it is above 9, or there is none.
+fn beside(number: &[u8], after: bool) -> &[u8] {
+    let (up, down) = (b"0 1 2 3 4 5 6 7 8 9 10", b"9 8 7 6 5 4 3 2 1 0");
+    let mut rest: &[u8] = if after { up } else { down };
+    for _ in 0..10 {
+        let (other, behind) = cut_word(rest);
+        if is(other, number) {
+            return first_word(behind);
+        }
+        rest = behind;
     }
+    b""
 }
 
 /// Of an `else`, by the test before it.
@@ -174,11 +179,12 @@ fn no_else(out: &mut Vec<u8>, at: Spot<'_>) -> Added {
     let (variable, test) = cut_word(cut_word(at.test).1);
     let (relation, test) = cut_word(test);
     let value = first_word(test);
-    let opposite = bound(value, is(relation, b">"));
-    let (middle, end): (&[u8], &[u8]) = match &opposite {
-        _ if is(relation, b"=") => (b" != ", value),
-        _ if is(relation, b"!=") => (b" = ", value),
-        Some(opposite) if has(b"< >", relation) => (opposite, b""),
+    let up = is(relation, b">");
+    let other = beside(value, up);
+    let (middle, end): (&[u8], &[u8]) = match relation {
+        b"=" => (b" != ", value),
+        b"!=" => (b" = ", value),
+        b"<" | b">" if !other.is_empty() => (if up { b" < " } else { b" > " }, other),
         _ => return out.extend_from_slice(words),
     };
     let (front, rest) = (bare(before_left(at)), at.behind);
@@ -388,17 +394,19 @@ const OF_TEST: &[u8] = b"a test is a variable, one of =, !=, <, >, and a value";
 /// Of a word that is to be a relation, and is none.
 fn no_relation(out: &mut Vec<u8>, at: Spot<'_>) -> Added {
     let (value, rest) = cut_word(at.behind);
-    let bound = bound(value, has(b"<= =<", at.word));
+    let up = has(b"<= =<", at.word);
+    let other = beside(value, up);
     if is(at.word, b"==") {
         put(out, b"`=` is written once", at, b"=")
     } else if is(at.word, b"<>") {
         put(out, b"a test has one of =, !=, <, >", at, b"!=")
     } else if has(b"<= >= => =<", at.word) {
         let words = b"a test has one of =, !=, <, >, and `<= 3` is `< 4`, `>= 3` is `> 2`";
-        match &bound {
-            Some(bound) => show(out, words, &[before_left(at), bound, rest]),
-            None => out.extend_from_slice(words),
+        let relation: &[u8] = if up { b" < " } else { b" > " };
+        if other.is_empty() {
+            return out.extend_from_slice(words);
         }
+        show(out, words, &[before_left(at), relation, other, rest])
     } else {
         let begins = begins_items(at.object, at.word);
         let new: &[u8] = if begins { b" = 1" } else { b" =" };

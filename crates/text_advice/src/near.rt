@@ -59,19 +59,25 @@ pub fn is_near(word: &[u8], name: &[u8]) -> bool {
         || name.len() >= 4 && word.starts_with(name)
 }
 
-/// The first word of a list that this one nearly is. Empty where there is none.
-pub fn nearest<'a>(list: &'a [u8], word: &[u8]) -> &'a [u8] {
+/// The first word of a list that this one is, or, where that is asked, nearly is. Empty where there is none.
+pub fn named_in<'a>(list: &'a [u8], word: &[u8], nearly: bool) -> &'a [u8] {
     let mut rest = list;
     for _ in 0..list.len() {
         let Some((name, after)) = next_word(rest) else {
             break;
         };
         rest = after;
-        if is_near(word, bare(name)) {
-            return bare(name);
+        let name = bare(name);
+        if is(name, word) || nearly && is_near(word, name) {
+            return name;
         }
     }
-    &[]
+    b""
+}
+
+/// The first word of a list that this one nearly is. Empty where there is none.
+pub fn nearest<'a>(list: &'a [u8], word: &[u8]) -> &'a [u8] {
+    named_in(list, word, true)
 }
 
 /// The object's call, or what moves one on, that has this name elsewhere; with a number where it wants one. Empty where there is none.

@@ -5,8 +5,8 @@ use crate::objects::{first_value, noun, numbers_after, questions_objects, verbs_
 use crate::sentence::{OF_QUESTION, is_of_question, list_calls, of_any_party, of_number};
 use crate::variables::{add_names, named};
 use crate::words::{
-    Added, Spot, before_word, cut, first_spot, first_word, has, has_comment, is_no_number, mean,
-    none_here, of_comment, say, second_spot, show,
+    Added, Spot, before_word, cut, cut_word, first_spot, first_word, has, has_comment,
+    is_no_number, mean, none_here, of_comment, say, second_spot, show,
 };
 use model_events::event::Object;
 use text_lines::command::is_known;
@@ -102,10 +102,14 @@ fn of_call(out: &mut Vec<u8>, text: &[u8], at: Spot<'_>) -> Added {
 /// Of a line of a party whose words say nothing.
 fn of_words(out: &mut Vec<u8>, text: &[u8], at: Spot<'_>) -> Added {
     let begins = object_of(text, cut(at.word).0).is_some() || is_known(at.object, at.word);
+    let words = b"`let` names an object";
     if is_of_question(at) {
         out.extend_from_slice(OF_QUESTION)
     } else if is_no_number(at.word) && has(questions_objects(), first_word(at.behind)) {
-        show(out, b"`let` names an object", &[b"let ", at.line])
+        show(out, words, &[b"let ", at.line])
+    } else if is_no_number(at.word) && has(questions_objects(), at.word) {
+        let (name, value) = cut_word(at.behind);
+        show(out, words, &[b"let ", name, b" ", at.word, value])
     } else if is_no_number(at.word) && of_number(out, at, begins, b"")? {
         Ok(())
     } else {

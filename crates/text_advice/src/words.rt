@@ -2,6 +2,7 @@
 
 ghost use Rattle.std.specs.Prelude.{◌≤◌, length};
 
+use crate::near::named_in;
 use crate::repeat::repeat;
 use model_events::event::Object;
 use std::alloc::AllocError;
@@ -117,15 +118,13 @@ pub fn parentheses(left: &[u8]) -> (&[u8], &[u8]) {
     (inside, run_of(closed, b")", true).1)
 }
 
-/// The number that a word has beside a letter or a mark, or two. Empty where it is a number, or has none.
+/// The number that a word has beside a letter or a mark, or two. Empty where it has no such.
 pub fn number_in(word: &[u8]) -> &[u8] {
     let (_, rest) = run_of(word, b"0123456789", false);
-    let (number, _) = run_of(rest, b"0123456789", true);
-    if is_no_number(word) && word.len().saturating_sub(number.len()) <= 2 {
-        number
-    } else {
-        b""
-    }
+    let (number, rest) = run_of(rest, b"0123456789", true);
+    let beside = word.len().saturating_sub(number.len());
+    let has_one = 0 < beside && beside <= 2 && !has_mark(rest, b"0123456789");
+    if has_one { number } else { b"" }
 }
 
 /// Adds that a word stands for this one, and how the line should be.
@@ -152,17 +151,7 @@ pub fn first_word(line: &[u8]) -> &[u8] {
 
 /// Whether these words have this one.
 pub fn has(list: &[u8], word: &[u8]) -> bool {
-    let mut rest = list;
-    for _ in 0..list.len() {
-        let Some((other, after)) = next_word(rest) else {
-            break;
-        };
-        rest = after;
-        if is(bare(other), word) {
-            return true;
-        }
-    }
-    false
+    !named_in(list, word, false).is_empty()
 }
 
 /// Whether these words have this one; a number, where they have `7`.
@@ -248,10 +237,6 @@ pub fn is_no_number(word: &[u8]) -> bool {
 
 /// Whether a word is no number, and begins as one.
 pub fn is_odd_number(word: &[u8]) -> bool {
-    match word.first() {
-        Some(byte) => {
-            (byte.is_ascii_digit() || *byte == b'-' || *byte == b'+') && is_no_number(word)
-        }
-        None => false,
-    }
+    let first = before(word, word.len().saturating_sub(1));
+    is_no_number(word) && has_mark(first, b"0123456789+-")
 }
