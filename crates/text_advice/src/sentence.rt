@@ -80,14 +80,16 @@ pub fn of_number(out: &mut Vec<u8>, at: Spot<'_>, begins: bool, behind: &[u8]) -
     let (second, rest) = cut_word(at.behind);
     if !number.is_empty() {
         put(out, b"a party's number is a word of its own", at, number)?;
-    } else if !is_no_number(second) && begins {
+    } else if begins && !is_no_number(second) {
         show(out, first, &[second, b" ", at.word, rest])?;
-    } else if !is_no_number(second) && !first_word(rest).is_empty() {
-        show(out, first, &[second, rest])?;
     } else if begins {
         show(out, first, &[b"1 ", at.word, behind])?;
+    } else if !is_no_number(second) && !first_word(rest).is_empty() {
+        show(out, first, &[second, rest])?;
+    } else {
+        return Ok(false);
     }
-    Ok(!number.is_empty() || begins || !is_no_number(second) && !first_word(rest).is_empty())
+    Ok(true)
 }
 
 /// What is said of a line of a question.

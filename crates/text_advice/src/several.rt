@@ -5,7 +5,7 @@ use crate::objects::{first_value, noun, numbers_after, questions_objects, verbs_
 use crate::sentence::{OF_QUESTION, is_of_question, list_calls, of_any_party, of_number};
 use crate::variables::{add_names, named};
 use crate::words::{
-    Added, Spot, before_word, cut, cut_word, first_spot, first_word, has, has_comment,
+    Added, Spot, before, before_word, cut, cut_word, first_spot, first_word, has, has_comment,
     is_no_number, mean, none_here, of_comment, say, second_spot, show,
 };
 use model_events::event::Object;
@@ -72,11 +72,7 @@ fn of_call(out: &mut Vec<u8>, text: &[u8], at: Spot<'_>) -> Added {
     };
     let near = nearest_call(object, call);
     let second = first_word(at.behind);
-    let marks = at
-        .word
-        .len()
-        .saturating_sub(name.len())
-        .saturating_sub(call.len());
+    let marks = before(at.word, name.len().saturating_add(call.len()));
     let goes_on = !second.is_empty() && is_no_number(second);
     if is(call, b"wait") && !near.is_empty() {
         let words = b"to begin the call, write ";
@@ -85,7 +81,7 @@ fn of_call(out: &mut Vec<u8>, text: &[u8], at: Spot<'_>) -> Added {
     } else if has(verbs_of(object), call) {
         let words = b"what moves a call on has no name before it";
         show(out, words, &[before_word(at), call, at.behind])
-    } else if is_known(object, call) && (marks > 1 || goes_on) {
+    } else if is_known(object, call) && (marks.len() > 1 || goes_on) {
         let words = b"a line begins one call, by its object's name and its own";
         show(out, words, &[before_word(at), name, b".", call])
     } else if is_known(object, call) {
