@@ -110,8 +110,8 @@ def without_advice(text, said):
 
 
 def repeated(line):
-    """What is repeated of a line: 200 bytes at most, and each that a terminal may take for more than a character by its number."""
-    shown = b"".join(b"%c" % byte if byte == 9 or 32 <= byte < 127 else b"\\x%02x" % byte for byte in line[:200])
+    """What is repeated of a line: 200 bytes at most, a tab as a blank, and each that a terminal may take for more than a character by its number."""
+    shown = b"".join(b"%c" % byte if 32 <= byte < 127 else b"\\x%02x" % byte for byte in line[:200].replace(b"\t", b" "))
     return shown + (b".." if len(line) > 200 else b"")
 
 

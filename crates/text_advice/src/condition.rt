@@ -2,14 +2,13 @@
 
 use crate::near::nearest;
 use crate::objects::{noun, terms_of};
-use crate::repeat::repeat;
-use crate::variables::{add_variables, has_variable, nearest_variable};
+use crate::variables::{add_variables, has_variable, named};
 use crate::words::{
-    Spot, before_word, front_of, has, has_mark, insert, is_no_number, is_odd_number, mean,
-    no_number, put, say, show, swap,
+    Added, Spot, Told, before_word, cut_word, front_of, has, has_mark, insert, is_no_number,
+    is_odd_number, mean, no_number, none_here, number_in, put, run_of, say, second_spot, show,
+    swap,
 };
-use std::alloc::AllocError;
-use text_lines::lexer::{is, next_word};
+use text_lines::lexer::is;
 
 /// The terms that every object has.
 const OF_ALL: &[u8] = b"1 for ever, 1 stuck, stuck, ends";
@@ -24,7 +23,7 @@ fn is_of_term(at: Spot<'_>) -> bool {
 }
 
 /// Adds the terms of the object.
-fn list_terms(out: &mut Vec<u8>, at: Spot<'_>) -> Result<(), AllocError> {
+fn list_terms(out: &mut Vec<u8>, at: Spot<'_>) -> Added {
     out.extend_from_slice(noun(at.object))?;
     out.extend_from_slice(b"'s terms are ")?;
     out.extend_from_slice(terms_of(at.object))?;
@@ -34,9 +33,28 @@ fn list_terms(out: &mut Vec<u8>, at: Spot<'_>) -> Result<(), AllocError> {
     add_variables(out, at.question)
 }
 
+/// The words of a term, and one of them, for which this word stands elsewhere. Empty where there are none.
+fn term_elsewhere(word: &[u8]) -> (&'static [u8], &'static [u8]) {
+    if has(b"fails failed fail refused", word) {
+        (b"interrupted", b"interrupted")
+    } else if has(b"read reads reading", word) {
+        (b"holds read", b"read")
+    } else if has(b"write writes writing locks locked owns", word) {
+        (b"holds write", b"write")
+    } else if has(b"asleep sleeping waiting", word) {
+        (b"waits", b"waits")
+    } else if is(word, b"forever") {
+        (b"for ever", b"word")
+    } else {
+        (b"", b"")
+    }
+}
+
 /// Of a word for which a question has another. Whether it is one.
-fn of_stranger(out: &mut Vec<u8>, at: Spot<'_>) -> Result<bool, AllocError> {
-    if is(at.word, b"not") {
+fn of_stranger(out: &mut Vec<u8>, at: Spot<'_>) -> Told {
+    let (name, value) = run_of(at.word, b"=", false);
+    let (term, key) = term_elsewhere(at.word);
+    if is(at.word, b"not") || at.word.starts_with(b"!") && value.is_empty() {
         out.extend_from_slice(
             b"a condition has no `not`, and says what holds: `never` asks if it cannot",
         )?;
@@ -44,16 +62,26 @@ fn of_stranger(out: &mut Vec<u8>, at: Spot<'_>) -> Result<bool, AllocError> {
         out.extend_from_slice(b"a condition has no `or`: ask of each in a question of its own")?;
     } else if has(b"= ==", at.word) {
         swap(out, b"a condition has no `=`", at, b"")?;
+    } else if !value.is_empty() && !has_mark(at.word, b"!<>") {
+        let (_, value) = run_of(value, b"=", true);
+        let words = b"a condition has no `=`";
+        show(out, words, &[before_word(at), name, b" ", value, at.behind])?;
     } else if has_mark(at.word, b"=!<>") {
         out.extend_from_slice(
             b"a condition has no relation: let an item look, as `if x > 2 set bad 1`, and ask for bad 1",
         )?;
+    } else if has(b"party thread process", at.word) {
+        none_here(out, at)?;
     } else if has(b"& &&", at.word) {
         put(out, b"`and` joins terms", at, b"and")?;
+    } else if has_mark(at.word, b"()") {
+        out.extend_from_slice(b"a condition has no parentheses: `and` joins its terms")?;
+    } else if has_mark(at.word, b";.") {
+        put(out, b"no mark ends a line", at, front_of(at.word, b";."))?;
     } else if has_mark(at.word, b",") {
-        out.extend_from_slice(b"`and` joins terms")?;
-        show(out, before_word(at), front_of(at.word, b","), b" and")?;
-        repeat(out, at.behind)?;
+        let word = front_of(at.word, b",");
+        let (front, rest) = (before_word(at), at.behind);
+        show(out, b"`and` joins terms", &[front, word, b" and", rest])?;
     } else if is(at.word, b"holds") {
         out.extend_from_slice(noun(at.object))?;
         out.extend_from_slice(
@@ -61,6 +89,8 @@ fn of_stranger(out: &mut Vec<u8>, at: Spot<'_>) -> Result<bool, AllocError> {
         )?;
     } else if has(b"deadlock deadlocked hang hangs blocked", at.word) {
         put(out, b"the term is `stuck`", at, b"stuck")?;
+    } else if !term.is_empty() && has(terms_of(at.object), key) {
+        mean(out, at, term)?;
     } else {
         return Ok(false);
     }
@@ -68,11 +98,14 @@ fn of_stranger(out: &mut Vec<u8>, at: Spot<'_>) -> Result<bool, AllocError> {
 }
 
 /// Of a word that stands in no term.
-fn no_term(out: &mut Vec<u8>, at: Spot<'_>) -> Result<(), AllocError> {
-    let variable = nearest_variable(at.question, at.word);
+fn no_term(out: &mut Vec<u8>, at: Spot<'_>) -> Added {
+    let (variable, _) = named(at.question, at.word, true);
     let term = nearest(terms_of(at.object), at.word);
     let of_all = nearest(OF_ALL, at.word);
-    if is_odd_number(at.word) {
+    let number = number_in(at.word);
+    if !number.is_empty() {
+        put(out, b"a party's number is a word of its own", at, number)
+    } else if is_odd_number(at.word) {
         no_number(out, at.word)
     } else if !variable.is_empty() {
         mean(out, at, variable)
@@ -86,12 +119,20 @@ fn no_term(out: &mut Vec<u8>, at: Spot<'_>) -> Result<(), AllocError> {
     }
 }
 
+/// Words with which terms end, and none goes on behind.
+const ENDS_OF_TERMS: &[u8] =
+    b"success interrupted done aborted waits read write ever stuck ends held";
+
 /// What is wanted between a word and the next. Empty where that may stand there.
 fn between(at: Spot<'_>, last: &[u8]) -> &'static [u8] {
     let ends = is(at.word, b"and") || at.word.is_empty();
-    if is(last, b"holds") && !has(b"read write", at.word) {
+    if is(last, b"holds") && ends {
         b" write"
-    } else if is(last, b"sleeps") && !is(at.word, b"for") {
+    } else if has(ENDS_OF_TERMS, last)
+        && (!is_no_number(at.word) || has_variable(at.question, at.word))
+    {
+        b" and"
+    } else if is(last, b"sleeps") && !has(b"for forever", at.word) {
         b" for ever"
     } else if is(last, b"race") && ends {
         b" x"
@@ -110,20 +151,19 @@ fn between(at: Spot<'_>, last: &[u8]) -> &'static [u8] {
 }
 
 /// Of a condition, which is read from here on.
-pub fn of_condition(out: &mut Vec<u8>, line: Spot<'_>) -> Result<(), AllocError> {
+pub fn of_condition(out: &mut Vec<u8>, line: Spot<'_>) -> Added {
     let mut at = line;
     let mut last: &[u8] = b"and";
     let mut first = true;
     for _ in 0..line.line.len() {
-        let (word, rest) = next_word(at.behind).unwrap_or((b"", b""));
-        at = Spot {
-            left: at.behind,
-            word,
-            behind: rest,
-            ..line
-        };
+        at = second_spot(at);
+        let word = at.word;
         if is(word, b"and") && first && !is_no_number(last) {
-            return out.extend_from_slice(b"a term is about one party: 1 stuck and 2 stuck");
+            let (_, term) = cut_word(at.behind);
+            return insert(out, b"a term is about one party", at, term);
+        }
+        if is(last, b"holds") && !has(b"and read write", word) && !word.is_empty() {
+            return put(out, b"a hold is `read` or `write`", at, b"write");
         }
         let missing = between(at, last);
         if !missing.is_empty() {
@@ -132,7 +172,7 @@ pub fn of_condition(out: &mut Vec<u8>, line: Spot<'_>) -> Result<(), AllocError>
         if word.is_empty() {
             break;
         }
-        if !is_of_term(at) {
+        if !is_of_term(at) || has(b"read write", word) && !is(last, b"holds") {
             return if of_stranger(out, at)? {
                 Ok(())
             } else {

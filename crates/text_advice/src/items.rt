@@ -2,16 +2,16 @@
 
 use crate::near::{nearest, nearest_call};
 use crate::objects::answers_of;
-use crate::repeat::{lacks_blanks, repeat, repeat_apart};
-use crate::sentence::{list_calls, no_call};
-use crate::variables::{add_variables, has_variable, nearest_variable};
+use crate::repeat::{lacks_blanks, repeat_apart};
+use crate::sentence::{list_calls, no_call, of_method};
+use crate::variables::{add_variables, has_variable, named};
 use crate::words::{
-    Spot, bare, before, before_word, first_word, front_of, has, has_like, has_mark, insert,
-    is_no_number, is_odd_number, mean, no_number, put, say, show, swap,
+    Added, Spot, bare, before, before_left, before_word, cut_word, first_word, front_of, has,
+    has_like, has_mark, insert, is_no_number, is_odd_number, mean, no_number, none_here,
+    parentheses, put, run_of, say, second_spot, show, swap,
 };
 use model_events::event::{Call, Object};
-use std::alloc::AllocError;
-use text_lines::call::named;
+use text_lines::call;
 use text_lines::lexer::{is, next_word};
 use text_lines::objects::calls_of;
 
@@ -40,17 +40,17 @@ enum Next {
 /// The words with which items begin that are no calls, and lines about closures.
 const WORDS: &[u8] = b"if while last set add sub may aborts sleeps serves";
 
+/// What is said of closures in a line with items.
+pub const OF_CLOSURES: &[u8] = b"what is said of closures stands in a line of its own";
+
 /// Whether words begin as what is said of closures.
 pub fn tells_of_closures(words: &[u8]) -> bool {
-    match next_word(words) {
-        Some((word, _)) => has(b"may aborts sleeps serves", bare(word)),
-        None => false,
-    }
+    has(b"may aborts sleeps serves", bare(first_word(words)))
 }
 
 /// What follows a call of this name. `None` where the object has none.
 fn behind_call(object: Object<()>, name: &[u8]) -> Option<Next> {
-    match named(name, calls_of(&object))? {
+    match call::named(name, calls_of(&object))? {
         Call::CompareExchange((), ()) | Call::CompareExchangeWeak((), ()) => Some(Next::TwoNumbers),
         Call::Post(_)
         | Call::Store(())
@@ -152,128 +152,210 @@ fn next_token(left: &[u8]) -> Option<(&[u8], &[u8])> {
 }
 
 /// The name that this word nearly is, among those with which items begin. Empty where there is none.
-fn near_item(at: Spot<'_>) -> &'static [u8] {
+fn near_item<'a>(at: Spot<'a>) -> &'a [u8] {
     match nearest_call(at.object, at.word) {
         [] => nearest(WORDS, at.word),
         name => name,
     }
 }
 
+/// The number after this one, or, where that is not asked, before it. Empty where it is above 9, or there is none.
+fn beside(number: &[u8], after: bool) -> &[u8] {
+    let (up, down) = (b"0 1 2 3 4 5 6 7 8 9 10", b"9 8 7 6 5 4 3 2 1 0");
+    let mut rest: &[u8] = if after { up } else { down };
+    for _ in 0..10 {
+        let (other, behind) = cut_word(rest);
+        if is(other, number) {
+            return first_word(behind);
+        }
+        rest = behind;
+    }
+    b""
+}
+
+/// Of an `else`, by the test before it.
+fn no_else(out: &mut Vec<u8>, at: Spot<'_>) -> Added {
+    let words = b"there is no `else`: a second test looks again, for the contrary";
+    let (variable, test) = cut_word(cut_word(at.test).1);
+    let (relation, test) = cut_word(test);
+    let value = first_word(test);
+    let up = is(relation, b">");
+    let other = beside(value, up);
+    let (middle, end): (&[u8], &[u8]) = match relation {
+        b"=" => (b" != ", value),
+        b"!=" => (b" = ", value),
+        b"<" | b">" if !other.is_empty() => (if up { b" < " } else { b" > " }, other),
+        _ => return out.extend_from_slice(words),
+    };
+    let (front, rest) = (bare(before_left(at)), at.behind);
+    show(out, words, &[front, b", if ", variable, middle, end, rest])
+}
+
+/// Of an `or` between two tests, of which the first is that of the item.
+fn no_or(out: &mut Vec<u8>, at: Spot<'_>) -> Added {
+    let words = b"a test has no `or`; with a line `let any 0` before there may stand";
+    let front = before(at.line, at.item.len());
+    let one = before(cut_word(at.item).1, at.left.len());
+    let behind = cut_word(cut_word(cut_word(at.behind).1).1).1;
+    let other = before(at.behind, behind.len());
+    let (none, any): (&[u8], &[u8]) = (b" set any 0, if", b" set any 1, if");
+    let parts = [front, none, one, any, other, any, b" any = 1", behind];
+    show(out, words, &parts)
+}
+
 /// Of a word that joins items or tests elsewhere.
-fn no_joint(out: &mut Vec<u8>, at: Spot<'_>) -> Result<(), AllocError> {
+fn no_joint(out: &mut Vec<u8>, at: Spot<'_>) -> Added {
     let first = first_word(at.item);
     if is(at.word, b"else") {
-        out.extend_from_slice(b"there is no `else`: the contrary is a test of its own")
+        no_else(out, at)
     } else if is(at.word, b"then") {
         swap(out, b"a `then` stands behind `last` alone", at, b"")
     } else if is(first, b"while") {
         out.extend_from_slice(b"a `while` has one test; two want a variable more, at first 1: ")?;
-        out.extend_from_slice(b"while on = 1 ( set on 0, if x = 0 if y = 0 ( set on 1, .. ) )")
+        out.extend_from_slice(if has(b"or ||", at.word) {
+            b"while on = 1 ( set on 0, if x = 0 set on 1, if y = 0 set on 1, if on = 1 .. )"
+        } else {
+            b"while on = 1 ( set on 0, if x = 0 if y = 0 ( set on 1, .. ) )"
+        })
+    } else if is(first, b"if") && has(b"or ||", at.word) {
+        no_or(out, at)
     } else if is(first, b"if") {
-        put(
-            out,
-            b"a test has no `and`, but its item may be a test",
-            at,
-            b"if",
-        )
+        let words = b"a test has no `and`, but its item may be a test";
+        put(out, words, at, b"if")
     } else {
         swap(out, b"a comma parts two items", at, b"")
     }
 }
 
+/// What is said of an item that is missing before a parenthesis, or the line's end.
+const NO_ITEM: &[u8] =
+    b"an item is missing; with a line `let idle 0` before, `set idle 0` does nothing";
+
 /// Of a word that is to begin an item, and begins none.
-fn no_item(out: &mut Vec<u8>, at: Spot<'_>) -> Result<(), AllocError> {
+fn no_item(out: &mut Vec<u8>, at: Spot<'_>) -> Added {
     let near = near_item(at);
-    if ends_item(at.word) {
-        say(out, b"an item is missing before `", at.word, b"`")
-    } else if at.word.ends_with(b"()") {
-        put(
-            out,
-            b"no parentheses follow a call",
-            at,
-            front_of(at.word, b"("),
-        )
+    if is(at.word, b",") {
+        none_here(out, at)
+    } else if is(at.word, b")") {
+        insert(out, NO_ITEM, at, b" set idle 0")
     } else if tells_of_closures(at.left) {
-        out.extend_from_slice(b"what is said of closures stands in a line of its own")?;
-        show(out, first_word(at.line), b"", at.left)
+        show(out, OF_CLOSURES, &[first_word(at.line), at.left])
     } else if tells_of_closures(near) && has_mark(before_word(at), b",") {
-        out.extend_from_slice(b"what is said of closures stands in a line of its own")?;
-        show(out, first_word(at.line), b" ", near)
-    } else if has(b"and & && then else", at.word) {
+        show(out, OF_CLOSURES, &[first_word(at.line), b" ", near])
+    } else if has(b"and & && or || then else ->", at.word) {
         no_joint(out, at)
     } else if has(b"+ -", at.word) {
-        no_sum(out, at)
-    } else if has_variable(at.question, front_of(at.word, b"+-=")) {
-        say(
-            out,
-            b"a variable changes by `set`, `add` or `sub`, as: set ",
-            front_of(at.word, b"+-="),
-            b" 1",
-        )
+        out.extend_from_slice(NO_SUM)
+    } else if !is_no_number(at.word) {
+        other_party(out, at)
+    } else if has_variable(at.question, operand(at.left).0) {
+        no_change(out, at, at.left)
+    } else if is(at.word, b"loop") {
+        put(out, ENDLESS, at, b"while on = 1")
+    } else if has(b"go run", at.word) {
+        out.extend_from_slice(b"a question's calls move on by themselves, in every order")
     } else if !near.is_empty() {
         mean(out, at, near)
     } else {
         no_call(out, at)?;
-        list_calls(
-            out,
-            b"; items begin with if, while, last, set, add, sub, a parenthesis, or a call: ",
-            at.object,
-        )
+        let words =
+            b"; items begin with if, while, last, set, add, sub, a parenthesis, or a call: ";
+        list_calls(out, words, at.object)
     }
 }
 
-/// Of a sum: a change of a variable by what comes behind it, or another.
-fn no_sum(out: &mut Vec<u8>, at: Spot<'_>) -> Result<(), AllocError> {
-    out.extend_from_slice(b"a value is a number or a variable, and no sum")?;
-    let (_, name) = next_word(at.item).unwrap_or((b"", b""));
-    let (_, value) = next_word(name).unwrap_or((b"", b""));
-    if is(first_word(at.item), b"set") && is(first_word(name), first_word(value)) {
-        let change: &[u8] = if is(at.word, b"+") {
-            b" add "
-        } else {
-            b" sub "
-        };
-        show(
-            out,
-            before(at.line, at.item.len()),
-            change,
-            first_word(name),
-        )?;
-        repeat(out, at.behind)
-    } else {
-        out.extend_from_slice(b": `add` and `sub` change a variable")
+/// Of a number where a party's line goes on, as if another party's began.
+fn other_party(out: &mut Vec<u8>, at: Spot<'_>) -> Added {
+    let words = b"each party has a line of its own";
+    show(out, words, &[bare(before_left(at))])
+}
+
+/// What is said of a sum.
+const NO_SUM: &[u8] =
+    b"a value is a number or a variable, and no sum: `add` and `sub` change a variable";
+
+/// The name or number behind signs, as in `++x` and `+= 1`, and what is left behind it.
+fn operand(words: &[u8]) -> (&[u8], &[u8]) {
+    run_of(run_of(words, b"+-=:", true).1, b" \t,;:()+-=", false)
+}
+
+/// Of a change of a variable as other languages write it, in the place of the item that is left here, or behind its `set`.
+fn no_change(out: &mut Vec<u8>, at: Spot<'_>, item: &[u8]) -> Added {
+    let (first, behind) = cut_word(item);
+    let changes = has(b"set add sub", first);
+    let words = if changes { behind } else { item };
+    let (change, rest) = run_of(words, b",()", false);
+    let (name, more) = operand(change);
+    let (value, more) = operand(more);
+    let (amount, _) = operand(more);
+    if has(b"if while", first) || !amount.is_empty() && !is(value, name) {
+        return out.extend_from_slice(NO_SUM);
     }
+    let verb: &[u8] = if has_mark(change, b"+") {
+        b" add "
+    } else if has_mark(change, b"-") {
+        b" sub "
+    } else {
+        b" set "
+    };
+    let amount = if amount.is_empty() { value } else { amount };
+    let amount = if amount.is_empty() { b"1" } else { amount };
+    let gap: &[u8] = if has_mark(rest, b"()") { b" " } else { b"" };
+    let front = before(at.line, item.len());
+    let words = b"a variable changes by `set`, `add` or `sub`, and has no sums";
+    show(out, words, &[front, verb, name, b" ", amount, gap, rest])
 }
 
 /// The variable that a test denies, and what comes behind it. Empty where it denies none.
 fn denied<'a>(at: Spot<'a>) -> (&'a [u8], &'a [u8]) {
     if has(b"not !", at.word) {
-        next_word(at.behind).unwrap_or((b"", b""))
+        cut_word(at.behind)
     } else {
         (at.word.strip_prefix(b"!").unwrap_or(b""), at.behind)
     }
 }
 
+/// Of an answer of a call, or `last`, in a test of variables.
+fn no_look(out: &mut Vec<u8>, at: Spot<'_>) -> Added {
+    let looks = is(at.word, b"last");
+    let rest = if looks { at.behind } else { at.left };
+    let (answer, rest) = cut_word(run_of(rest, b"=", true).1);
+    let (then, behind) = cut_word(rest);
+    let rest = if is(then, b"then") { behind } else { rest };
+    let front = before(at.line, at.item.len());
+    let words = b"`last` looks at an answer";
+    show(out, words, &[front, b" last ", answer, b" then", rest])
+}
+
+/// What is said of a loop without end.
+const ENDLESS: &[u8] = b"a loop without end, with a line `let on 1` before, is `while on = 1`";
+
 /// Of a word that is to name a variable, and names none.
-fn no_variable(out: &mut Vec<u8>, at: Spot<'_>) -> Result<(), AllocError> {
-    let near = nearest_variable(at.question, at.word);
+fn no_variable(out: &mut Vec<u8>, at: Spot<'_>) -> Added {
+    let (near, _) = named(at.question, at.word, true);
+    let (first, answers) = (first_word(at.item), answers_of(at.object));
     let (name, rest) = denied(at);
     if has_variable(at.question, name) {
-        out.extend_from_slice(b"a test compares with a value")?;
-        show(out, before(at.line, at.left.len()), b" ", name)?;
-        out.extend_from_slice(b" = 0")?;
-        repeat(out, rest)
+        let words = b"a test compares with a value";
+        show(out, words, &[before_left(at), b" ", name, b" = 0", rest])
     } else if at.word.starts_with(b"(") {
-        out.extend_from_slice(b"no parentheses stand round a test")
+        let (test, rest) = parentheses(at.left);
+        let words = b"no parentheses stand round a test";
+        show(out, words, &[before_left(at), b" ", test, rest])
+    } else if is(first, b"while") && has(b"true 1", at.word) {
+        put(out, ENDLESS, at, b"on = 1")
+    } else if is(first, b"if") && (is(at.word, b"last") || has(answers, at.word)) {
+        no_look(out, at)
     } else if !is_no_number(at.word) || ends_item(at.word) || begins_items(at.object, at.word) {
         say(out, b"a variable stands here, and not `", at.word, b"`")?;
         add_variables(out, at.question)
     } else if !near.is_empty() {
         mean(out, at, near)
     } else {
+        let words = b"there is no variable `";
         say(
             out,
-            b"there is no variable `",
+            words,
             at.word,
             b"`: a line before names each, as `let x 0`",
         )?;
@@ -282,12 +364,20 @@ fn no_variable(out: &mut Vec<u8>, at: Spot<'_>) -> Result<(), AllocError> {
 }
 
 /// Of a word that is to be a number or a variable, and is neither.
-fn no_value(out: &mut Vec<u8>, at: Spot<'_>) -> Result<(), AllocError> {
-    if is(at.word, b"=") {
-        swap(out, b"no `=` stands here", at, b"")
+fn no_value(out: &mut Vec<u8>, at: Spot<'_>) -> Added {
+    let front = front_of(at.word, b":");
+    let is_odd = is_odd_number(at.word);
+    if has(b"= := to by", at.word)
+        || is(at.word, b",") && !is_no_number(bare(first_word(at.behind)))
+    {
+        none_here(out, at)
     } else if ends_item(at.word) {
         say(out, b"a value is missing before `", at.word, b"`")
-    } else if is_odd_number(at.word) {
+    } else if !is_no_number(front) {
+        put(out, b"a value is a number or a variable", at, front)
+    } else if has(b"+= -= + -", at.word) || has_mark(at.word, b"+-") && !is_odd {
+        no_change(out, at, at.item)
+    } else if is_odd {
         no_number(out, at.word)
     } else if has(b"true yes", at.word) {
         put(out, b"a value is a number or a variable", at, b"1")
@@ -298,54 +388,55 @@ fn no_value(out: &mut Vec<u8>, at: Spot<'_>) -> Result<(), AllocError> {
     }
 }
 
+/// What is said of a test.
+const OF_TEST: &[u8] = b"a test is a variable, one of =, !=, <, >, and a value";
+
 /// Of a word that is to be a relation, and is none.
-fn no_relation(out: &mut Vec<u8>, at: Spot<'_>) -> Result<(), AllocError> {
+fn no_relation(out: &mut Vec<u8>, at: Spot<'_>) -> Added {
+    let (value, rest) = cut_word(at.behind);
+    let up = has(b"<= =<", at.word);
+    let other = beside(value, up);
     if is(at.word, b"==") {
         put(out, b"`=` is written once", at, b"=")
-    } else if has(b"<= >= => =< <>", at.word) {
-        say(
-            out,
-            b"a test has one of =, !=, <, >, and not `",
-            at.word,
-            b"`",
-        )
+    } else if is(at.word, b"<>") {
+        put(out, b"a test has one of =, !=, <, >", at, b"!=")
+    } else if has(b"<= >= => =<", at.word) {
+        let words = b"a test has one of =, !=, <, >, and `<= 3` is `< 4`, `>= 3` is `> 2`";
+        let relation: &[u8] = if up { b" < " } else { b" > " };
+        if other.is_empty() {
+            return out.extend_from_slice(words);
+        }
+        show(out, words, &[before_left(at), relation, other, rest])
     } else {
-        insert(
-            out,
-            b"a test is a variable, one of =, !=, <, >, and a value",
-            at,
-            if begins_items(at.object, at.word) {
-                b" = 1"
-            } else {
-                b" ="
-            },
-        )
+        let begins = begins_items(at.object, at.word);
+        let new: &[u8] = if begins { b" = 1" } else { b" =" };
+        insert(out, OF_TEST, at, new)
     }
 }
 
 /// Of a word that is to be an answer, and is none of the object.
-fn no_answer(out: &mut Vec<u8>, at: Spot<'_>) -> Result<(), AllocError> {
+fn no_answer(out: &mut Vec<u8>, at: Spot<'_>) -> Added {
     let near = nearest(answers_of(at.object), at.word);
-    if is(at.word, b",") {
+    if has(b"= ==", at.word) {
+        none_here(out, at)
+    } else if is(at.word, b",") {
         swap(out, b"behind an answer stands `then`", at, b" then")
     } else if is(at.word, b")") || behind_first(at.object, at.word).is_some() {
         insert(out, b"behind an answer stands `then`", at, b" then")
     } else if !near.is_empty() {
         mean(out, at, near)
     } else {
-        say(
-            out,
-            b"no call answers `",
-            at.word,
-            b"` here; the answers are ",
-        )?;
+        let words = b"no call answers `";
+        say(out, words, at.word, b"` here; the answers are ")?;
         out.extend_from_slice(answers_of(at.object))
     }
 }
 
 /// Of a word that is to be a number of a call, and is none.
-fn no_number_of_call(out: &mut Vec<u8>, at: Spot<'_>, numbers: &[u8]) -> Result<(), AllocError> {
-    if at.word.is_empty() || ends_item(at.word) {
+fn no_number_of_call(out: &mut Vec<u8>, at: Spot<'_>, numbers: &[u8]) -> Added {
+    if is(at.word, b",") && !is_no_number(bare(first_word(at.behind))) {
+        none_here(out, at)
+    } else if at.word.is_empty() || ends_item(at.word) {
         insert(out, b"a number is missing behind the call", at, numbers)
     } else {
         no_number(out, at.word)
@@ -353,41 +444,43 @@ fn no_number_of_call(out: &mut Vec<u8>, at: Spot<'_>, numbers: &[u8]) -> Result<
 }
 
 /// Of a word behind an item that is no comma.
-fn no_comma(out: &mut Vec<u8>, at: Spot<'_>) -> Result<(), AllocError> {
+fn no_comma(out: &mut Vec<u8>, at: Spot<'_>) -> Added {
     if is(at.word, b")") {
         swap(out, b"no parenthesis is open here", at, b"")
+    } else if !is_no_number(at.word) && begins_items(at.object, bare(first_word(at.behind))) {
+        other_party(out, at)
     } else if !is_no_number(at.word) {
         swap(out, b"no number follows here", at, b"")
-    } else if has(b"and then & &&", at.word) {
+    } else if is(at.word, b"else") {
+        no_else(out, at)
+    } else if has(b"and then & && ->", at.word) {
         swap(out, b"a comma parts two items", at, b",")
-    } else if has(b"+ -", at.word) {
-        no_sum(out, at)
+    } else if has(b"+ -", at.word) && has(b"set add sub", first_word(at.item)) {
+        no_change(out, at, at.item)
     } else if begins_items(at.object, at.word) || !near_item(at).is_empty() {
         insert(out, b"a comma parts two items", at, b",")
     } else {
-        say(
-            out,
-            b"behind an item comes a comma or a closing parenthesis, and not `",
-            at.word,
-            b"`",
-        )
+        let words = b"behind an item comes a comma or a closing parenthesis, and not `";
+        say(out, words, at.word, b"`")
     }
 }
 
-/// Whether a word is several, but for a call or a change of a variable as other languages write it, and a test in parentheses.
+/// Whether a word is several, but for a change of a variable as other languages write it, and a test in parentheses.
 fn is_glued(at: Spot<'_>, next: Next) -> bool {
     let speaks = match next {
-        Next::Item | Next::Tested => {
-            at.word.ends_with(b"()") || has_variable(at.question, front_of(at.word, b"+-="))
-        }
+        Next::Item | Next::Tested => has_variable(at.question, operand(at.word).0),
         Next::Variable => at.word.starts_with(b"(") || at.word.starts_with(b"!"),
+        Next::Amount => has_mark(at.word, b"+-"),
         _ => false,
     };
-    !speaks && lacks_blanks(at.word)
+    !speaks && !is(at.word, b"->") && lacks_blanks(at.word)
 }
 
 /// Of a word that cannot stand here.
-fn no_word(out: &mut Vec<u8>, at: Spot<'_>, next: Next) -> Result<(), AllocError> {
+fn no_word(out: &mut Vec<u8>, at: Spot<'_>, next: Next) -> Added {
+    if matches!(next, Next::Item | Next::Tested) && of_method(out, at, true)? {
+        return Ok(());
+    }
     if is_glued(at, next) {
         out.extend_from_slice(
             b"a comma and a blank part items, and blanks stand round parentheses and relations: ",
@@ -407,7 +500,7 @@ fn no_word(out: &mut Vec<u8>, at: Spot<'_>, next: Next) -> Result<(), AllocError
 }
 
 /// Adds so many closing parentheses.
-fn close(out: &mut Vec<u8>, open: usize) -> Result<(), AllocError> {
+fn close(out: &mut Vec<u8>, open: usize) -> Added {
     for _ in 0..open {
         out.extend_from_slice(b" )")?;
     }
@@ -415,17 +508,11 @@ fn close(out: &mut Vec<u8>, open: usize) -> Result<(), AllocError> {
 }
 
 /// Of a line that ends where this comes next.
-fn no_more(out: &mut Vec<u8>, at: Spot<'_>, next: Next, open: usize) -> Result<(), AllocError> {
+fn no_more(out: &mut Vec<u8>, at: Spot<'_>, next: Next, open: usize) -> Added {
     match next {
         Next::Item => out.extend_from_slice(b"an item is missing at the end of the line"),
-        Next::Tested => out.extend_from_slice(
-            b"behind a test, or `then`, stands the item that is done then",
-        ),
-        Next::Variable | Next::Relation | Next::Value => {
-            out.extend_from_slice(
-                b"a test is a variable, one of =, !=, <, >, and a value: if x = 0 ..",
-            )
-        }
+        Next::Tested => insert(out, NO_ITEM, at, b" set idle 0"),
+        Next::Variable | Next::Relation | Next::Value => { show(out, OF_TEST, &[b"if x = 0 .."]) }
         Next::Answer => {
             out.extend_from_slice(b"behind `last` stand an answer (")?;
             out.extend_from_slice(answers_of(at.object))?;
@@ -436,8 +523,8 @@ fn no_more(out: &mut Vec<u8>, at: Spot<'_>, next: Next, open: usize) -> Result<(
         }
         Next::TwoNumbers | Next::Number => no_word(out, at, next),
         Next::Behind if open > 0 => {
-            out.extend_from_slice(b"a parenthesis is not closed; where the line's end closes it")?;
-            show(out, at.line, b"", b"")?;
+            let words = b"a parenthesis is not closed; where the line's end closes it";
+            show(out, words, &[at.line])?;
             close(out, open)
         }
         Next::Behind => out.extend_from_slice(
@@ -458,7 +545,7 @@ fn open_behind(open: usize, word: &[u8]) -> usize {
 }
 
 /// Of a party's line, which is read from here on.
-pub fn of_items(out: &mut Vec<u8>, line: Spot<'_>) -> Result<(), AllocError> {
+pub fn of_items(out: &mut Vec<u8>, line: Spot<'_>) -> Added {
     let mut at = line;
     let mut next = Next::Item;
     let mut open = 0;
@@ -467,16 +554,18 @@ pub fn of_items(out: &mut Vec<u8>, line: Spot<'_>) -> Result<(), AllocError> {
             break;
         };
         at = Spot {
-            left: at.behind,
             word,
             behind: rest,
-            ..at
+            ..second_spot(at)
         };
         let Some(then) = behind(at, next, open) else {
             return no_word(out, at, next);
         };
         if matches!(next, Next::Item | Next::Tested) {
             at.item = at.left;
+            if matches!(then, Next::Variable | Next::Answer) {
+                at.test = at.left;
+            }
         }
         next = then;
         open = open_behind(open, word);

@@ -27,19 +27,21 @@ use text_lines::fault::FaultyLine;
 use text_lines::lexer::{next_line, next_word};
 use text_lines::value_type::object_named;
 
+/// What is left of a text from the line of this number on, counted from 1.
+fn from_line(text: &[u8], number: u64) -> &[u8] {
+    let mut rest = text;
+    for _ in 1..number {
+        let Some((_, more)) = next_line(rest) else {
+            break;
+        };
+        rest = more;
+    }
+    rest
+}
+
 /// A line of a text, counted from 1, without its end. Empty where the text has no such line.
 fn line_of(text: &[u8], number: u64) -> &[u8] {
-    let mut rest = text;
-    for at in 1..number {
-        match next_line(rest) {
-            Some((_, more)) => rest = more,
-            None => return &[],
-        }
-    }
-    match next_line(rest) {
-        Some((line, _)) => line,
-        None => &[],
-    }
+    next_line(from_line(text, number)).unwrap_or((b"", b"")).0
 }
 
 /// The object that the first line of a text names.

@@ -13,15 +13,15 @@ fn digit_of(n: u8) -> u8
     if n < 10 { b'0' + n } else { b'a' - 10 + n }
 }
 
-/// Whether a terminal takes this byte for a character, or a tab, and nothing more.
+/// Whether a terminal takes this byte for a character, and nothing more.
 fn is_plain(byte: u8) -> bool {
-    byte == b'\t' || (byte >= b' ' && byte <= b'~')
+    byte >= b' ' && byte <= b'~'
 }
 
-/// Adds a byte, or its number.
+/// Adds a byte, or its number; a tab, which parts words as a blank does, as a blank.
 fn add_byte(out: &mut Vec<u8>, byte: u8) -> Result<(), AllocError> {
-    if is_plain(byte) {
-        out.push(byte)?;
+    if is_plain(byte) || byte == b'\t' {
+        out.push(byte.max(b' '))?;
         Ok(())
     } else {
         out.extend_from_slice(&[b'\\', b'x', digit_of(byte / 16), digit_of(byte % 16)])
@@ -79,8 +79,9 @@ pub fn lacks_blanks(word: &[u8]) -> bool {
     false
 }
 
-/// The same, with the blanks that are missing, and with a question's marks.
+/// The same, with the blanks that are missing, and with a question's marks, of which none ends a line.
 pub fn repeat_apart(out: &mut Vec<u8>, words: &[u8]) -> Result<(), AllocError> {
+    let words = words.strip_suffix(b";").unwrap_or(words);
     let mut last = b' ';
     for byte in words.iter().take(MOST) {
         let byte = mark_for(*byte);

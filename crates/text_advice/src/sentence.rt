@@ -5,20 +5,20 @@ use crate::objects::{
     answers, first_value, first_words, noun, numbers_after, texts_objects, verbs_of,
 };
 use crate::words::{
-    Spot, before_word, first_spot, first_word, front_of, has_comment, has_mark, is_no_number, mean,
-    of_comment, say, show,
+    Added, Spot, Told, before_left, before_word, cut, cut_word, first_spot, first_word, front_of,
+    has, has_comment, has_mark, is_no_number, mean, number_in, of_comment, parentheses, put, say,
+    second_spot, show,
 };
 use model_events::event::{Call, Object};
-use std::alloc::AllocError;
 use text_lines::call::{name_of, named};
 use text_lines::command::is_known;
 use text_lines::fault::{FaultyLine, LineFault};
-use text_lines::lexer::{is, next_word};
+use text_lines::lexer::is;
 use text_lines::objects::calls_of;
 use text_lines::several::is_several;
 
 /// Adds the names of calls, with commas between.
-fn add_names(out: &mut Vec<u8>, calls: &[Call<()>]) -> Result<(), AllocError> {
+fn add_names(out: &mut Vec<u8>, calls: &[Call<()>]) -> Added {
     let mut between: &[u8] = b"";
     for call in calls {
         out.extend_from_slice(between)?;
@@ -29,31 +29,92 @@ fn add_names(out: &mut Vec<u8>, calls: &[Call<()>]) -> Result<(), AllocError> {
 }
 
 /// Adds words, and then the names of all calls of the object.
-pub fn list_calls(out: &mut Vec<u8>, words: &[u8], object: Object<()>) -> Result<(), AllocError> {
+pub fn list_calls(out: &mut Vec<u8>, words: &[u8], object: Object<()>) -> Added {
     out.extend_from_slice(words)?;
     add_names(out, calls_of(&object))
 }
 
 /// Adds words, and then all that a line may ask of the object: its calls, and the verbs of a call under way.
-pub fn list_asked(out: &mut Vec<u8>, words: &[u8], object: Object<()>) -> Result<(), AllocError> {
+pub fn list_asked(out: &mut Vec<u8>, words: &[u8], object: Object<()>) -> Added {
     list_calls(out, words, object)?;
     out.extend_from_slice(b"; a call under way: ")?;
     out.extend_from_slice(verbs_of(object))
 }
 
 /// Adds that the object has no such call.
-pub fn no_call(out: &mut Vec<u8>, at: Spot<'_>) -> Result<(), AllocError> {
+pub fn no_call(out: &mut Vec<u8>, at: Spot<'_>) -> Added {
     out.extend_from_slice(noun(at.object))?;
     say(out, b" has no call `", at.word, b"`")
 }
 
+/// Of a call with parentheses behind its name, or an object's name before it, as other languages write it; what comes behind is kept, or not.
+/// Whether it is one.
+pub fn of_method(out: &mut Vec<u8>, at: Spot<'_>, keeps: bool) -> Told {
+    let (first, second) = cut(at.word);
+    let name = if second.is_empty() { first } else { second };
+    let known = is_known(at.object, name);
+    let near = nearest_call(at.object, name);
+    let call = if known { name } else { near };
+    if call.is_empty() || !has_mark(at.word, b":>(") && second.is_empty() {
+        return Ok(false);
+    }
+    let (inside, rest): (&[u8], &[u8]) = if has_mark(at.word, b"(") {
+        parentheses(at.left)
+    } else {
+        (b"", at.behind)
+    };
+    let rest = if keeps { rest } else { b"" };
+    let takes = !is_no_number(front_of(inside, b","));
+    let (gap, inside): (&[u8], &[u8]) = if takes { (b" ", inside) } else { (b"", b"") };
+    let words = b"a call is its name alone, and behind it the numbers that it wants";
+    let front = before_left(at);
+    show(out, words, &[front, b" ", call, gap, inside, rest])?;
+    Ok(true)
+}
+
+/// Of a line that does not begin with a party's number, though one sees which it has, or that it begins with what a party does, behind which
+/// the line goes on so. Whether it is so.
+pub fn of_number(out: &mut Vec<u8>, at: Spot<'_>, begins: bool, behind: &[u8]) -> Told {
+    let first: &[u8] = b"a party's number comes first";
+    let number = number_in(at.word);
+    let (second, rest) = cut_word(at.behind);
+    if !number.is_empty() {
+        put(out, b"a party's number is a word of its own", at, number)?;
+    } else if begins && !is_no_number(second) {
+        show(out, first, &[second, b" ", at.word, rest])?;
+    } else if begins {
+        show(out, first, &[b"1 ", at.word, behind])?;
+    } else if !is_no_number(second) && !first_word(rest).is_empty() {
+        show(out, first, &[second, rest])?;
+    } else {
+        return Ok(false);
+    }
+    Ok(true)
+}
+
+/// What is said of a line of a question.
+pub const OF_QUESTION: &[u8] =
+    b"such a line is a question's, which `sync-explore` reads; `let` is also one of a text that begins with `parties 2`";
+
+/// Whether a line is one of a question.
+pub fn is_of_question(at: Spot<'_>) -> bool {
+    let verbs = b"set add sub if while last may aborts sleeps serves";
+    has(b"let find never begin", at.word) || has(verbs, first_word(at.behind))
+}
+
 /// Of a line with this verb, whose words are no command of the object.
-fn of_verb(out: &mut Vec<u8>, at: Spot<'_>) -> Result<(), AllocError> {
+fn of_verb(out: &mut Vec<u8>, at: Spot<'_>) -> Added {
     let verb = nearest(verbs_of(at.object), at.word);
     let call = nearest_call(at.object, at.word);
-    if has_mark(at.word, b",;") {
-        out.extend_from_slice(b"a line asks one thing, and a line of its own the next")?;
-        show(out, before_word(at), front_of(at.word, b",;"), b"")
+    let second = first_word(at.behind);
+    let joins = is_known(at.object, second) || has(b"and & && then ->", second);
+    if of_method(out, at, false)? {
+        Ok(())
+    } else if has_mark(at.word, b",;") || is_known(at.object, at.word) && joins {
+        let words = b"a line asks one thing, and a line of its own the next";
+        show(out, words, &[before_word(at), front_of(at.word, b",;")])
+    } else if is(at.word, b"run") && !is_no_number(second) {
+        put(out, b"`run` has no number, but `go` has", at, b"go")
     } else if is_known(at.object, at.word) {
         out.extend_from_slice(numbers_after(at.object))
     } else if !call.is_empty() {
@@ -67,78 +128,34 @@ fn of_verb(out: &mut Vec<u8>, at: Spot<'_>) -> Result<(), AllocError> {
 }
 
 /// Of a line whose words are no command of the object.
-fn of_bad_line(out: &mut Vec<u8>, at: Spot<'_>) -> Result<(), AllocError> {
+fn of_bad_line(out: &mut Vec<u8>, at: Spot<'_>) -> Added {
     if has_comment(at.line) {
-        return of_comment(out, at.line);
-    }
-    match next_word(at.behind) {
-        Some((word, behind)) if !is_no_number(at.word) => {
-            of_verb(
-                out,
-                Spot {
-                    left: at.behind,
-                    word,
-                    behind,
-                    ..at
-                },
-            )
-        }
-        _ => list_asked(
-            out,
-            b"a line begins with the number of a party, and then says what it does: ",
-            at.object,
-        ),
+        of_comment(out, at.line)
+    } else if is_of_question(at) {
+        out.extend_from_slice(OF_QUESTION)
+    } else if !is_no_number(at.word) && !first_word(at.behind).is_empty() {
+        of_verb(out, second_spot(at))
+    } else if is_no_number(at.word) && of_number(out, at, is_known(at.object, at.word), b"")? {
+        Ok(())
+    } else {
+        let words = b"a line begins with the number of a party, and then says what it does: ";
+        list_asked(out, words, at.object)
     }
 }
 
 /// Whether a line asks for so many steps.
 fn counts_steps(line: &[u8]) -> bool {
-    let Some((_, rest)) = next_word(line) else {
-        return false;
-    };
-    match next_word(rest) {
-        Some((verb, rest)) => next_word(rest).is_some() && is(verb, b"go"),
-        None => false,
-    }
-}
-
-/// Of a line that moves a call on where none is under way.
-fn of_idle(out: &mut Vec<u8>, object: Object<()>, line: &[u8]) -> Result<(), AllocError> {
-    if counts_steps(line) {
-        out.extend_from_slice(
-            b"the call ended before these steps, or none was under way: `run` goes to its end",
-        )
-    } else {
-        list_calls(
-            out,
-            b"the party has no call under way, and begins one by its name: ",
-            object,
-        )
-    }
+    let (verb, rest) = cut_word(cut_word(line).1);
+    is(verb, b"go") && !first_word(rest).is_empty()
 }
 
 /// Whether a line answers `wait` at an object that has a call of this name in Rust, which a text begins by another.
 fn means_to_begin(object: Object<()>, line: &[u8]) -> bool {
-    let Some((_, rest)) = next_word(line) else {
-        return false;
-    };
-    match next_word(rest) {
-        Some((name, _)) => is(name, b"wait") && named(b"start_wait", calls_of(&object)).is_some(),
-        None => false,
-    }
-}
-
-/// Of a line that answers a closure where none waits for an answer of this kind.
-fn of_early_answer(out: &mut Vec<u8>, object: Object<()>, line: &[u8]) -> Result<(), AllocError> {
-    if means_to_begin(object, line) {
-        out.extend_from_slice(b"to begin the call, write start_wait")
-    } else {
-        out.extend_from_slice(b"no closure waits for this answer: `go` and `run` move a call on")
-    }
+    is(first_word(cut_word(line).1), b"wait") && named(b"start_wait", calls_of(&object)).is_some()
 }
 
 /// Of a first line that names this object.
-pub fn of_first_line(out: &mut Vec<u8>, object: Object<()>, line: &[u8]) -> Result<(), AllocError> {
+pub fn of_first_line(out: &mut Vec<u8>, object: Object<()>, line: &[u8]) -> Added {
     let name = first_word(line);
     if has_comment(line) {
         return of_comment(out, line);
@@ -150,7 +167,7 @@ pub fn of_first_line(out: &mut Vec<u8>, object: Object<()>, line: &[u8]) -> Resu
 }
 
 /// Of a line that a party cannot do, of whichever object.
-pub fn of_any_party(out: &mut Vec<u8>, line: &[u8], fault: LineFault) -> Result<(), AllocError> {
+pub fn of_any_party(out: &mut Vec<u8>, line: &[u8], fault: LineFault) -> Added {
     out.extend_from_slice(match fault {
         LineFault::NoParty =>
             b"the parties are numbered from 1, and the first line says how many there are",
@@ -174,36 +191,31 @@ pub fn of_any_party(out: &mut Vec<u8>, line: &[u8], fault: LineFault) -> Result<
 }
 
 /// Of a line after the first.
-fn of_line(
-    out: &mut Vec<u8>,
-    object: Object<()>,
-    line: &[u8],
-    fault: LineFault,
-) -> Result<(), AllocError> {
+fn of_line(out: &mut Vec<u8>, object: Object<()>, line: &[u8], fault: LineFault) -> Added {
     match fault {
         LineFault::NoObject | LineFault::BadLine | LineFault::BadNumber => {
             of_bad_line(out, first_spot(object, b"", line))
         }
-        LineFault::Idle => of_idle(out, object, line),
+        LineFault::Idle if !counts_steps(line) => {
+            let words = b"the party has no call under way, and begins one by its name: ";
+            list_calls(out, words, object)
+        }
+        LineFault::NotWaiting if means_to_begin(object, line) => {
+            out.extend_from_slice(b"to begin the call, write start_wait")
+        }
         LineFault::Waiting => out.extend_from_slice(answers(object)),
-        LineFault::NotWaiting => of_early_answer(out, object, line),
-        LineFault::NoParty
-        | LineFault::Busy
-        | LineFault::Holding
-        | LineFault::NoHold
-        | LineFault::StepLimit => of_any_party(out, line, fault),
+        _ => of_any_party(out, line, fault),
     }
 }
 
+/// What is said of a question that names several objects.
+pub const ONE_OBJECT: &[u8] =
+    b"a question is about one object, which its first line names, as mutex 2";
+
 /// Of the first line of a text or a question that names no object which it may be about.
-pub fn no_object(
-    out: &mut Vec<u8>,
-    line: &[u8],
-    what: &[u8],
-    objects: &[u8],
-) -> Result<(), AllocError> {
+pub fn no_object(out: &mut Vec<u8>, line: &[u8], what: &[u8], objects: &[u8]) -> Added {
     let at = first_spot(Object::Mutex, b"", line);
-    let near = nearest(objects, at.word);
+    let near = nearest(objects, front_of(at.word, b"(<:;"));
     if line.starts_with(b"\xef\xbb\xbf") {
         out.extend_from_slice(b"the first line has a byte-order mark")
     } else if has_comment(line) {
@@ -213,8 +225,10 @@ pub fn no_object(
             b" has no comments, and begins with its object",
             b"",
         )
-    } else if is_several(line) {
-        out.extend_from_slice(b"a question is about one object")
+    } else if is_several(line) || is(at.word, b"let") && is(what, b"a question") {
+        out.extend_from_slice(ONE_OBJECT)
+    } else if is(at.word, b"let") {
+        out.extend_from_slice(b"a text that names its objects begins with `parties 2`")
     } else if !near.is_empty() {
         mean(out, at, near)
     } else {
@@ -228,7 +242,7 @@ pub fn advise(
     object: Option<Object<()>>,
     line: &[u8],
     found: FaultyLine,
-) -> Result<(), AllocError> {
+) -> Added {
     match object {
         None => no_object(out, line, b"a text", texts_objects()),
         Some(object) if found.line == 1 => of_first_line(out, object, line),

@@ -1,96 +1,56 @@
 //! What would be right in a line of a text of several objects.
 
 use crate::near::{nearest, nearest_call};
-use crate::objects::{first_value, noun, numbers_after, texts_objects};
-use crate::sentence::{list_calls, of_any_party};
-use crate::words::{Spot, first_spot, first_word, has_comment, mean, of_comment, say};
+use crate::objects::{first_value, noun, numbers_after, questions_objects, verbs_of};
+use crate::sentence::{OF_QUESTION, is_of_question, list_calls, of_any_party, of_number};
+use crate::variables::{add_names, named};
+use crate::words::{
+    Added, Spot, before, before_word, cut, cut_word, first_spot, first_word, has, has_comment,
+    is_no_number, mean, none_here, of_comment, say, second_spot, show,
+};
 use model_events::event::Object;
-use std::alloc::AllocError;
 use text_lines::command::is_known;
 use text_lines::fault::{FaultyLine, LineFault};
-use text_lines::lexer::{is, next_line, next_word};
+use text_lines::lexer::{is, next_line};
 use text_lines::several::{is_several, may_name};
 use text_lines::value_type::object_named;
 
 /// Whether a text is one of several objects.
 pub fn begins_several(text: &[u8]) -> bool {
-    match next_line(text) {
-        Some((line, _)) => is_several(line),
-        None => false,
-    }
-}
-
-/// The name that a line gives to an object, and what comes after it.
-fn given(line: &[u8]) -> Option<(&[u8], &[u8])> {
-    let (word, rest) = next_word(line)?;
-    if is(word, b"let") {
-        next_word(rest)
-    } else {
-        None
-    }
+    is_several(next_line(text).unwrap_or((b"", b"")).0)
 }
 
 /// The object that a text gives this name.
 fn object_of(text: &[u8], name: &[u8]) -> Option<Object<()>> {
-    let mut rest = text;
-    for _ in 0..text.len() {
-        let (line, more) = next_line(rest)?;
-        rest = more;
-        if let Some((other, behind)) = given(line)
-            && is(other, name)
-        {
-            return object_named(first_word(behind));
-        }
-    }
-    None
+    object_named(first_word(named(text, name, false).1))
 }
 
-/// Adds the names that a text gives, with commas between.
-fn add_names(out: &mut Vec<u8>, text: &[u8]) -> Result<(), AllocError> {
-    let mut between: &[u8] = b"";
-    let mut rest = text;
-    for _ in 0..text.len() {
-        let Some((line, more)) = next_line(rest) else {
-            break;
-        };
-        rest = more;
-        if let Some((name, _)) = given(line) {
-            say(out, between, name, b"")?;
-            between = b", ";
-        }
-    }
-    Ok(())
-}
-
-/// Of a line that names no object which there is.
-fn of_no_object(out: &mut Vec<u8>, line: &[u8], behind: &[u8]) -> Result<(), AllocError> {
-    let at = Spot {
-        line,
-        ..first_spot(Object::Mutex, b"", behind)
-    };
-    let near = nearest(texts_objects(), at.word);
-    if near.is_empty() {
-        say(
-            out,
-            b"`let` has a name, and then its object: ",
-            texts_objects(),
-            b"",
-        )
+/// Of a line that names no object which there may be, at the word that is to be one.
+fn of_no_object(out: &mut Vec<u8>, name: &[u8], at: Spot<'_>) -> Added {
+    let words: &[u8] = b"`let` has a name, and then its object";
+    let near = nearest(questions_objects(), at.word);
+    if is(at.word, b"=") {
+        none_here(out, at)
+    } else if has(questions_objects(), name) {
+        show(out, words, &[b"let ", at.word, b" ", name, at.behind])
+    } else if near.is_empty() {
+        show(out, words, &[questions_objects()])
     } else {
         mean(out, at, near)
     }
 }
 
 /// Of a line that begins with `let`.
-fn of_let(out: &mut Vec<u8>, line: &[u8]) -> Result<(), AllocError> {
-    let Some((name, behind)) = given(line) else {
-        return of_no_object(out, line, b"");
+fn of_let(out: &mut Vec<u8>, line: &[u8]) -> Added {
+    let name = second_spot(first_spot(Object::Mutex, b"", line));
+    let kind = second_spot(name);
+    let Some(object) = object_named(kind.word) else {
+        return of_no_object(out, name.word, kind);
     };
-    let kind = first_word(behind);
-    let Some(object) = object_named(kind) else {
-        return of_no_object(out, line, behind);
-    };
-    if !may_name(&[], name) {
+    if !has(questions_objects(), kind.word) {
+        return of_no_object(out, name.word, kind);
+    }
+    if !may_name(&[], name.word) {
         return out.extend_from_slice(
             b"a name begins with a small letter, has no `.`, and is none of and, word, counter, waiters, value, race",
         );
@@ -98,34 +58,33 @@ fn of_let(out: &mut Vec<u8>, line: &[u8]) -> Result<(), AllocError> {
     out.extend_from_slice(b"`let` stands before all other lines, each name is new, and ")?;
     out.extend_from_slice(noun(object))?;
     out.extend_from_slice(b" has ")?;
-    out.extend_from_slice(first_value(object, kind))
-}
-
-/// The name of a word `<name>.<call>`, and what is behind the `.`; the whole word, where it has none.
-fn cut(word: &[u8]) -> (&[u8], &[u8]) {
-    let at = word
-        .iter()
-        .position(|byte| *byte == b'.')
-        .unwrap_or(word.len())
-        .min(word.len());
-    let call = match word[at..].split_first() {
-        Some((_, call)) => call,
-        None => b"",
-    };
-    (&word[..at], call)
+    out.extend_from_slice(first_value(object, kind.word))
 }
 
 /// Of a word that is to be `<name>.<call>`.
-fn of_call(out: &mut Vec<u8>, text: &[u8], word: &[u8]) -> Result<(), AllocError> {
-    let (name, call) = cut(word);
+fn of_call(out: &mut Vec<u8>, text: &[u8], at: Spot<'_>) -> Added {
+    let (name, call) = cut(at.word);
     let Some(object) = object_of(text, name) else {
         out.extend_from_slice(
             b"a call is begun by its object's name and its own, as one.lock; the names are: ",
         )?;
-        return add_names(out, text);
+        return add_names(out, text, b"");
     };
     let near = nearest_call(object, call);
-    if is_known(object, call) {
+    let second = first_word(at.behind);
+    let marks = before(at.word, name.len().saturating_add(call.len()));
+    let goes_on = !second.is_empty() && is_no_number(second);
+    if is(call, b"wait") && !near.is_empty() {
+        let words = b"to begin the call, write ";
+        say(out, words, name, b".start_wait; its closure is answered")?;
+        show(out, b" without a name", &[before_word(at), call])
+    } else if has(verbs_of(object), call) {
+        let words = b"what moves a call on has no name before it";
+        show(out, words, &[before_word(at), call, at.behind])
+    } else if is_known(object, call) && (marks.len() > 1 || goes_on) {
+        let words = b"a line begins one call, by its object's name and its own";
+        show(out, words, &[before_word(at), name, b".", call])
+    } else if is_known(object, call) {
         out.extend_from_slice(numbers_after(object))
     } else if near.is_empty() {
         out.extend_from_slice(noun(object))?;
@@ -136,32 +95,36 @@ fn of_call(out: &mut Vec<u8>, text: &[u8], word: &[u8]) -> Result<(), AllocError
     }
 }
 
+/// Of a line of a party whose words say nothing.
+fn of_words(out: &mut Vec<u8>, text: &[u8], at: Spot<'_>) -> Added {
+    let begins = object_of(text, cut(at.word).0).is_some() || is_known(at.object, at.word);
+    let words = b"`let` names an object";
+    if is_of_question(at) {
+        out.extend_from_slice(OF_QUESTION)
+    } else if is_no_number(at.word) && has(questions_objects(), first_word(at.behind)) {
+        show(out, words, &[b"let ", at.line])
+    } else if is_no_number(at.word) && has(questions_objects(), at.word) {
+        let (name, value) = cut_word(at.behind);
+        show(out, words, &[b"let ", name, b" ", at.word, value])
+    } else if is_no_number(at.word) && of_number(out, at, begins, b"")? {
+        Ok(())
+    } else {
+        of_call(out, text, second_spot(at))
+    }
+}
+
 /// Of a line of a party.
-fn of_party(
-    out: &mut Vec<u8>,
-    text: &[u8],
-    line: &[u8],
-    fault: LineFault,
-) -> Result<(), AllocError> {
+fn of_party(out: &mut Vec<u8>, text: &[u8], line: &[u8], fault: LineFault) -> Added {
     match fault {
         LineFault::NoObject | LineFault::BadLine | LineFault::BadNumber => {
-            let verb = match next_word(line) {
-                Some((_, rest)) => first_word(rest),
-                None => b"",
-            };
-            of_call(out, text, verb)
+            of_words(out, text, first_spot(Object::Mutex, b"", line))
         }
         _ => of_any_party(out, line, fault),
     }
 }
 
 /// Adds what would be right in the place of a line with this fault, of a text of several objects.
-pub fn advise(
-    out: &mut Vec<u8>,
-    text: &[u8],
-    line: &[u8],
-    found: FaultyLine,
-) -> Result<(), AllocError> {
+pub fn advise(out: &mut Vec<u8>, text: &[u8], line: &[u8], found: FaultyLine) -> Added {
     if has_comment(line) {
         of_comment(out, line)
     } else if found.line == 1 {

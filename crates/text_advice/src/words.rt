@@ -2,10 +2,16 @@
 
 ghost use Rattle.std.specs.Prelude.{◌≤◌, length};
 
+use crate::near::named_in;
 use crate::repeat::repeat;
 use model_events::event::Object;
 use std::alloc::AllocError;
 use text_lines::lexer::{is, next_word, number_within};
+
+/// What comes of adding words; and whether there were some.
+pub type Added = Result<(), AllocError>;
+
+pub type Told = Result<bool, AllocError>;
 
 /// A word of a line, of a question about this object.
 #[derive(Clone, Copy)]
@@ -21,6 +27,8 @@ pub struct Spot<'a> {
     pub behind: &'a [u8],
     /// What is left of the line from the item on in which the word is, or which it is to begin.
     pub item: &'a [u8],
+    /// What is left of it from the last test on.
+    pub test: &'a [u8],
 }
 
 /// What stands in a line before so many bytes of its end.
@@ -33,61 +41,94 @@ pub fn before_word<'a>(at: Spot<'a>) -> &'a [u8] {
     before(at.line, at.behind.len().saturating_add(at.word.len()))
 }
 
+/// What stands in the line before the word and the blanks before it.
+pub fn before_left<'a>(at: Spot<'a>) -> &'a [u8] {
+    before(at.line, at.left.len())
+}
+
 /// Adds a sentence about a word of the text.
-pub fn say(out: &mut Vec<u8>, front: &[u8], word: &[u8], end: &[u8]) -> Result<(), AllocError> {
+pub fn say(out: &mut Vec<u8>, front: &[u8], word: &[u8], end: &[u8]) -> Added {
     out.extend_from_slice(front)?;
     repeat(out, word)?;
     out.extend_from_slice(end)
 }
 
-/// Adds how a line should be.
-pub fn show(out: &mut Vec<u8>, front: &[u8], new: &[u8], end: &[u8]) -> Result<(), AllocError> {
+/// Adds a sentence, and how the line should be, of these parts.
+pub fn show(out: &mut Vec<u8>, words: &[u8], parts: &[&[u8]]) -> Added {
+    out.extend_from_slice(words)?;
     out.extend_from_slice(b": ")?;
-    repeat(out, front)?;
-    repeat(out, new)?;
-    repeat(out, end)
+    for part in parts {
+        repeat(out, part)?;
+    }
+    Ok(())
 }
 
-/// Adds how the line should be, with this in the place of the word.
-pub fn put(out: &mut Vec<u8>, words: &[u8], at: Spot<'_>, new: &[u8]) -> Result<(), AllocError> {
-    out.extend_from_slice(words)?;
-    show(out, before_word(at), new, at.behind)
+/// The same of the line with this in the place of the word.
+pub fn put(out: &mut Vec<u8>, words: &[u8], at: Spot<'_>, new: &[u8]) -> Added {
+    show(out, words, &[before_word(at), new, at.behind])
 }
 
 /// The same, with this before the blanks that are before the word.
-pub fn insert(out: &mut Vec<u8>, words: &[u8], at: Spot<'_>, new: &[u8]) -> Result<(), AllocError> {
-    out.extend_from_slice(words)?;
-    show(out, before(at.line, at.left.len()), new, at.left)
+pub fn insert(out: &mut Vec<u8>, words: &[u8], at: Spot<'_>, new: &[u8]) -> Added {
+    show(out, words, &[before_left(at), new, at.left])
 }
 
 /// The same, with this in the place of the word and of the blanks before it.
-pub fn swap(out: &mut Vec<u8>, words: &[u8], at: Spot<'_>, new: &[u8]) -> Result<(), AllocError> {
-    out.extend_from_slice(words)?;
-    show(out, before(at.line, at.left.len()), new, at.behind)
+pub fn swap(out: &mut Vec<u8>, words: &[u8], at: Spot<'_>, new: &[u8]) -> Added {
+    show(out, words, &[before_left(at), new, at.behind])
 }
 
-/// Where a word has the first of these marks, or its end.
-fn mark_at(word: &[u8], marks: &[u8]) -> usize
+/// Adds that the word does not stand here, and the line without it.
+pub fn none_here(out: &mut Vec<u8>, at: Spot<'_>) -> Added {
+    say(out, b"no `", at.word, b"`")?;
+    swap(out, b" stands here", at, b"")
+}
+
+/// Where a word has the first byte that is among these marks, or is not, or its end.
+fn mark_at(word: &[u8], marks: &[u8], among: bool) -> usize
     ensures { result ≤ length word.now }
 {
     word.iter()
-        .position(|byte| marks.contains(byte))
+        .position(|byte| marks.contains(byte) == among)
         .unwrap_or(word.len())
         .min(word.len())
 }
 
 /// Whether a word has one of these marks.
 pub fn has_mark(word: &[u8], marks: &[u8]) -> bool {
-    mark_at(word, marks) < word.len()
+    mark_at(word, marks, true) < word.len()
 }
 
 /// What a word has before the first of these marks.
 pub fn front_of<'a>(word: &'a [u8], marks: &[u8]) -> &'a [u8] {
-    &word[..mark_at(word, marks)]
+    &word[..mark_at(word, marks, true)]
+}
+
+/// What comes next in a line, behind blanks, as long as its bytes are among these, or are not; and what is left behind it.
+pub fn run_of<'a>(left: &'a [u8], marks: &[u8], among: bool) -> (&'a [u8], &'a [u8]) {
+    let left = &left[mark_at(left, b" \t", false)..];
+    let end = mark_at(left, marks, !among);
+    (&left[..end], &left[end..])
+}
+
+/// What the first parentheses that are left in a line have in them, and what is left behind them.
+pub fn parentheses(left: &[u8]) -> (&[u8], &[u8]) {
+    let (_, opened) = run_of(left, b"(", false);
+    let (inside, closed) = run_of(run_of(opened, b"(", true).1, b")", false);
+    (inside, run_of(closed, b")", true).1)
+}
+
+/// The number that a word has beside a letter or a mark, or two. Empty where it has no such.
+pub fn number_in(word: &[u8]) -> &[u8] {
+    let (_, rest) = run_of(word, b"0123456789", false);
+    let (number, rest) = run_of(rest, b"0123456789", true);
+    let beside = word.len().saturating_sub(number.len());
+    let has_one = 0 < beside && beside <= 2 && !has_mark(rest, b"0123456789");
+    if has_one { number } else { b"" }
 }
 
 /// Adds that a word stands for this one, and how the line should be.
-pub fn mean(out: &mut Vec<u8>, at: Spot<'_>, near: &[u8]) -> Result<(), AllocError> {
+pub fn mean(out: &mut Vec<u8>, at: Spot<'_>, near: &[u8]) -> Added {
     say(out, b"there is no `", at.word, b"`, but `")?;
     repeat(out, near)?;
     put(out, b"`", at, near)
@@ -98,27 +139,19 @@ pub fn bare(word: &[u8]) -> &[u8] {
     word.strip_suffix(b",").unwrap_or(word)
 }
 
+/// The first word of a line, and what is left behind it. Empty where it has none.
+pub fn cut_word(line: &[u8]) -> (&[u8], &[u8]) {
+    next_word(line).unwrap_or((b"", b""))
+}
+
 /// The first word of a line. Empty where it has none.
 pub fn first_word(line: &[u8]) -> &[u8] {
-    match next_word(line) {
-        Some((word, _)) => word,
-        None => &[],
-    }
+    cut_word(line).0
 }
 
 /// Whether these words have this one.
 pub fn has(list: &[u8], word: &[u8]) -> bool {
-    let mut rest = list;
-    for _ in 0..list.len() {
-        let Some((other, after)) = next_word(rest) else {
-            break;
-        };
-        rest = after;
-        if is(bare(other), word) {
-            return true;
-        }
-    }
-    false
+    !named_in(list, word, false).is_empty()
 }
 
 /// Whether these words have this one; a number, where they have `7`.
@@ -128,7 +161,7 @@ pub fn has_like(list: &[u8], word: &[u8]) -> bool {
 
 /// Whether a word begins a comment in many languages.
 fn is_comment(word: &[u8]) -> bool {
-    word.starts_with(b"#") || word.starts_with(b"//")
+    word.starts_with(b"#") || word.starts_with(b"//") || word.starts_with(b"/*") || is(word, b"--")
 }
 
 /// What a line has from its first comment on. Empty where it has none.
@@ -151,17 +184,16 @@ pub fn has_comment(line: &[u8]) -> bool {
 }
 
 /// Adds that there are no comments, and the line without its first.
-pub fn of_comment(out: &mut Vec<u8>, line: &[u8]) -> Result<(), AllocError> {
-    out.extend_from_slice(b"there are no comments")?;
+pub fn of_comment(out: &mut Vec<u8>, line: &[u8]) -> Added {
     match before(line, comment_in(line).len()) {
-        [] => Ok(()),
-        rest => show(out, rest, b"", b""),
+        [] => out.extend_from_slice(b"there are no comments"),
+        rest => show(out, b"there are no comments", &[rest]),
     }
 }
 
 /// A line, at its first word.
 pub fn first_spot<'a>(object: Object<()>, question: &'a [u8], line: &'a [u8]) -> Spot<'a> {
-    let (word, behind) = next_word(line).unwrap_or((b"", b""));
+    let (word, behind) = cut_word(line);
     Spot {
         object,
         question,
@@ -170,17 +202,32 @@ pub fn first_spot<'a>(object: Object<()>, question: &'a [u8], line: &'a [u8]) ->
         word,
         behind,
         item: line,
+        test: b"",
+    }
+}
+
+/// The word behind this one.
+pub fn second_spot<'a>(at: Spot<'a>) -> Spot<'a> {
+    let (word, behind) = cut_word(at.behind);
+    Spot {
+        left: at.behind,
+        word,
+        behind,
+        ..at
     }
 }
 
 /// Adds what a number is.
-pub fn no_number(out: &mut Vec<u8>, word: &[u8]) -> Result<(), AllocError> {
-    say(
-        out,
-        b"a number is 0 to 18446744073709551615, in decimal digits, and not `",
-        word,
-        b"`",
-    )
+pub fn no_number(out: &mut Vec<u8>, word: &[u8]) -> Added {
+    let words = b"a number is 0 to 18446744073709551615, in decimal digits, and not `";
+    say(out, words, word, b"`")
+}
+
+/// The name before a call, and the call's own, in a word as `one.lock`, or as other languages write it: `one->lock()`, `one::lock`.
+pub fn cut(word: &[u8]) -> (&[u8], &[u8]) {
+    let (name, rest) = run_of(word, b".:->(,;", false);
+    let (_, call) = run_of(rest, b".:->", true);
+    (name, front_of(call, b"(,;"))
 }
 
 /// Whether a word is no number at all.
@@ -190,10 +237,6 @@ pub fn is_no_number(word: &[u8]) -> bool {
 
 /// Whether a word is no number, and begins as one.
 pub fn is_odd_number(word: &[u8]) -> bool {
-    match word.first() {
-        Some(byte) => {
-            (byte.is_ascii_digit() || *byte == b'-' || *byte == b'+') && is_no_number(word)
-        }
-        None => false,
-    }
+    let first = before(word, word.len().saturating_sub(1));
+    is_no_number(word) && has_mark(first, b"0123456789+-")
 }
