@@ -19,6 +19,7 @@ test_streams() {
     if is_built sync-explore; then
         wants_streams sync-explore out examples/explore/mutex-waiter-gives-up.txt examples/explore/mutex-fault
         sweeps_memory sync-explore examples/explore/mutex-waiter-gives-up.txt
+        sweeps_memory sync-explore examples/explore/own-three-states.txt
     fi
     if is_built sync-play; then
         plays_at_length
