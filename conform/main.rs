@@ -8,7 +8,7 @@ use std::io::{BufRead, Read, Write};
 use words::words::{ROWS, depart_by};
 
 fn rows(names: &str) -> u32 {
-    let bit = |name: &str| ROWS.iter().position(|row| *row == name).unwrap_or_else(|| panic!("no row {name}"));
+    let bit = |name: &str| ROWS.iter().position(|row| *row == name).unwrap_or_else(|| panic!("no row {name}, and a text comes from standard input"));
     names.split(',').filter(|name| !name.is_empty()).map(|name| 1 << bit(name)).sum()
 }
 

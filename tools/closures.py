@@ -28,6 +28,8 @@ COMING = re.compile(r"^ghost coming = \{ (?:λ \w+\. )?(\w+)")
 # What the running types share or hand in, which has no call of a model.
 SHARED = {"running_passes", "running_for_one", "running_sharing", "running_closures"}
 BEGINS = ("Beginning", "Continuing", "Choosing")
+# What makes the steps of who sleeps, and which call asks for which.
+SLEEPS = re.compile(r"\b(?:sleep|wake)_by\(|\bself\.state\.|\bself\.make_|\bword\.load\(|\bself\.(?:change|count_in|ask|park)\(")
 
 
 def tells(line, is_playing):
@@ -51,6 +53,9 @@ def found(root):
             for line in map(str.strip, file.read_text().split("\n")):
                 if tells(line, "running_model" in file.parts):
                     yield f"{file.relative_to(root / 'crates')}: {line}"
+    for line in map(str.strip, (root / "crates/running_closures/src/sleepers.rt").read_text().split("\n")):
+        if SLEEPS.search(line):
+            yield f"running_closures/src/sleepers.rt: {line}"
 
 
 def main():

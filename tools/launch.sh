@@ -130,7 +130,7 @@ build() {
     local said=() patience=5
     if [[ ! -x $program ]]; then
         patience=
-        say "building the program; the first time this proves everything it stands on, which takes some minutes"
+        say "building the program; the first time this proves everything it stands on, which takes tens of minutes"
     fi
     if ! { python3 tools/prove.py "programs=$crate" </dev/null 2>&1; } | listen; then
         printf '%s\n' "${said[@]}" | tail -n 20 >&2 || true
@@ -177,7 +177,9 @@ play_for_a_person() {
     trap 'rm -f -- "$text"' EXIT
     cat >"$text"
     "$program" <"$text" || status=$?
-    if ((status == 2)) && [[ -x $advises ]]; then
+    if [[ $(head -n 1 -- "$text") == object* ]]; then
+        exit "$status"  # of a lock of one's own it says nothing
+    elif ((status == 2)) && [[ -x $advises ]]; then
         { "$advises" <"$text" 2>&1 >/dev/null || true; } | tail -n +2 >&2
     elif ((status == 2)); then
         name_adviser

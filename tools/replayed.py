@@ -17,9 +17,26 @@ CLOSURES = ("aborts", "may", "sleeps", "serves")
 COURSES = (" loops for ever", " waits for itself")
 
 
+def lets_of(question):
+    """The words behind each `let`."""
+    return [line.split()[1:] for line in question.splitlines()[1:] if line.split()[:1] == ["let"]]
+
+
+def objects_of(question):
+    """What each object is, by its name; one that stands alone has none."""
+    first = question.split()[0]
+    return {words[0]: words[1] for words in lets_of(question) if not words[1].isdigit()} if first == "parties" else {"": first}
+
+
+def head_of(question):
+    """The lines that a text begins with: the question's first, and those that name objects."""
+    first, *lines = question.splitlines()
+    return [first, *(line for line in lines if line.split()[:1] == ["let"] and line.split()[1] in objects_of(question))]
+
+
 def variables_of(question):
     """The names of a client's variables; none where the question is about calls alone."""
-    return [line.split()[1] for line in question.splitlines()[1:] if line.split()[:1] == ["let"]]
+    return [words[0] for words in lets_of(question) if words[0] not in objects_of(question)]
 
 
 def call_in(item):
@@ -63,11 +80,16 @@ def condition_of(question):
 def answers_in(output):
     """The answers of each party, by what sync-play printed."""
     answers = {}
-    for line in output.splitlines()[:-1]:
+    for line in output.splitlines():
         party, _, words = line.partition(" ")
-        if words.split()[0] not in NO_ANSWERS:
+        if party.isdigit() and words.split()[0] not in NO_ANSWERS:
             answers.setdefault(party, []).append(words.split(" failed ")[0])
     return answers
+
+
+def words_in(question, output):
+    """What the words of each object hold at the end, as an outcome has it."""
+    return [line.split(" failed ")[0] for line in output.splitlines()[-len(objects_of(question)) :]]
 
 
 def sleepers(question):
@@ -103,17 +125,17 @@ def told(question, entries, output):
             rows[-1] += f", {fate}"
         else:
             rows.append(f"{party} {fate}")
-    rows.append(output.splitlines()[-1].split(" failed ")[0])
-    return " | ".join(rows)
+    return " | ".join([*rows, *words_in(question, output)])
 
 
 def is_told_client(question, entries, output, outcome):
     """Whether a client's line can be so, by what sync-play printed of the text: of a call that its party may make again any answer of the
     party's. What the variables hold no text tells."""
-    *parts, words, _ = outcome.split(" | ")
-    answers = answers_in(output)
-    if words != output.splitlines()[-1].split(" failed ")[0]:
+    *parts, _ = outcome.split(" | ")
+    answers, words = answers_in(output), words_in(question, output)
+    if parts[-len(words) :] != words:
         return False
+    del parts[-len(words) :]
     for part in parts:
         party, _, fates = part.partition(" ")
         for fate in fates.split(", "):
@@ -135,14 +157,25 @@ def holders(text):
     return rows[-1][at : rows[0].index("call")].strip().split(", ")
 
 
-def trace_of(text):
-    """The rows of a text's trace: (party, act, what the words hold, how the call goes on)."""
+def has_hold(question, text, party, what):
+    """Whether a party has a hold, of the object that is named, or of any."""
+    name, _, kind = what.rpartition(".")
+    verbs = ("", " writes") if kind == "write" else (" reads",)
+    return any(f"{party}{verb} {of}".strip() in holders(text) for verb in verbs for of in ([name] if name else objects_of(question)))
+
+
+def trace_of(question, text):
+    """The rows of a text's trace: (party, the object's name, act, what the words hold, by name and word, how the call goes on)."""
     head, *rows = run("./sync-trace", text).stdout.splitlines()
-    at = [head.index(name) for name in ("party", "act", "word", "holds", "call")]
+    titles, at = head.split()[3:], [found.start() for found in re.finditer(r"\S+", head)][3:]
     for row in rows:
-        party, act, words, _, call = (row[start:end].strip() for start, end in zip(at, [*at[1:], None]))
-        parts = ["word", *words.split()]
-        yield party, act, dict(zip(parts[::2], map(int, parts[1::2]))), call
+        party, act, *cells, _, call = (row[start:end].strip() for start, end in zip(at, [*at[1:], None]))
+        name, _, act = ("", "", act) if "" in objects_of(question) else act.partition(": ")
+        words = {}
+        for title, cell in zip(titles[2:-2], cells):
+            parts = ["word", *cell.split()]
+            words |= {(title.rpartition(".")[0], word): int(value) for word, value in zip(parts[::2], parts[1::2])}
+        yield party, name, act, words, call
 
 
 def watched(kind, call, act):
@@ -182,14 +215,14 @@ def woken_by(way, word, only_one):
 def ways_to_sleep(question, text):
     """What the closures that sleep may be about at the end of a text, in each way in which they can have slept and gone on as it says:
     asked, asleep or woken. None, where they cannot have."""
-    kind = question.split()[0]
     calls = {}
     ways = {()}
-    for party, act, words, call in trace_of(text):
+    for party, name, act, words, call in trace_of(question, text):
+        kind = objects_of(question)[name]
         if call == "begins":
             calls[party] = act.split()[0]
         if act.startswith("wake "):
-            word = woken(kind, calls[party], act)
+            word = (name, woken(kind, calls[party], act))
             ways = {after for way in ways for after in woken_by(way, word, act == "wake one")}
         if act.startswith("its closure answers") and party in sleepers(question):
             goes_on = act.endswith("Continue")
@@ -200,7 +233,7 @@ def ways_to_sleep(question, text):
                     kept.add(tuple(item for item in way if item[0] != party))
             ways = kept
         if call.startswith("waits ") and party in sleepers(question):
-            asked = ("asked", watched(kind, calls[party], act), int(call.split()[1]))
+            asked = ("asked", (name, watched(kind, calls[party], act)), int(call.split()[1]))
             ways = {tuple(sorted([*way, (party, asked)])) for way in ways}
         ways = fallen_asleep(ways, words)
     return ways
@@ -254,17 +287,17 @@ def holds(term, question, text, entries, output):
     if what == "sleeps for ever":
         return stands(first, entries, output)
     if not first.isdigit():
-        words = output.splitlines()[-1].split(" failed ")[0].split()
-        return what == dict(zip(words[::2], words[1::2]))[first]
-    given = entries.count(f"{first} abort")
+        name, _, word = first.rpartition(".")
+        behind = [line.split() for line in words_in(question, output) if not name or line.startswith(f"{name} ")]
+        return any(here == word and value == what for words in behind for here, value in zip(words, words[1:]))
+    if what.startswith("holds "):
+        return has_hold(question, text, first, what.removeprefix("holds "))
+    # Of which object a call of the party has answered, or waits, no text tells.
+    what = what.rpartition(".")[2]
     if what == "aborted":
-        return given > 0
+        return f"{first} abort" in entries
     if what == "waits":
         return stands(first, entries, output)
-    if what == "holds write":
-        return first in holders(text) or f"{first} writes" in holders(text)
-    if what == "holds read":
-        return f"{first} reads" in holders(text)
     return what in answers_in(output).get(first, [])
 
 
@@ -274,7 +307,7 @@ def wrong_outcomes(question, answer):
     for line in answer.splitlines()[:-1]:
         outcome, _, text = line.partition(": " if line.startswith(".. and ") else " : ")
         entries = text.split(" / ") if text else []
-        played = run("./sync-play", "\n".join([question.splitlines()[0], *entries]) + "\n")
+        played = run("./sync-play", "\n".join([*head_of(question), *entries]) + "\n")
         outcome = " | ".join(part for part in outcome.split(" | ") if not part.endswith(COURSES))
         if line.startswith(".. and "):
             wrong += [played.stderr.strip()] if played.returncode else []
@@ -283,7 +316,7 @@ def wrong_outcomes(question, answer):
                 wrong.append(f"{text}: {played.stderr.strip() or played.stdout}, and not {outcome}")
         elif played.returncode != 0 or told(question, entries, played.stdout) != outcome:
             wrong.append(f"{text}: {played.stderr.strip() or told(question, entries, played.stdout)}, and not {outcome}")
-        wrong += slept_wrong(question, "\n".join([question.splitlines()[0], *entries]) + "\n", outcome) + opened_wrong(question, entries)
+        wrong += slept_wrong(question, "\n".join([*head_of(question), *entries]) + "\n", outcome) + opened_wrong(question, entries)
     return wrong
 
 
@@ -297,9 +330,10 @@ def wrong_terms(question, answer, terms):
     """What is wrong with a text that is to show a condition."""
     if answer.startswith(("never ", "never:")):
         return []
-    if answer.splitlines()[0] != question.splitlines()[0]:
-        return [f"{answer.splitlines()[0]} is not the question's first line"]
-    entries = answer.splitlines()[1:]
+    head = head_of(question)
+    if answer.splitlines()[: len(head)] != head:
+        return [f"it does not begin with {' / '.join(head)}"]
+    entries = answer.splitlines()[len(head) :]
     played = run("./sync-play", answer)
     if played.returncode != 0:
         return [played.stderr.strip()]

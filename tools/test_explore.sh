@@ -1,7 +1,7 @@
 # Each question of examples/explore is answered: NAME.txt has beside it the answer (NAME.out), NAME.err for standard error where it is not
-# empty, and NAME.status where the status is not 0. Each text in an answer is played by sync-play, and prints what its line says. And
-# questions that are made at random are answered as tools/brute.py answers them, which knows nothing but the pages; of locks of one's own that are made
-# so none that is said to be proved goes wrong, by tools/own_locks.py.
+# empty, NAME.status where the status is not 0, and NAME.told where its moves are told too. Each text in an answer is played by sync-play, and prints what
+# its line says. Those of the folder classic are answered so, too. And questions that are made at random are answered as tools/brute.py answers them, which knows nothing but the pages; of locks of one's
+# own that are made so none that is said to be proved goes wrong, by tools/own_locks.py.
 test_explore() {
     local text
     source tools/test_examples.sh
@@ -9,15 +9,30 @@ test_explore() {
     is_built sync-play || return
     # By its rows it is told who holds what.
     is_built sync-trace || return
-    for text in examples/explore/*.txt; do
+    for text in examples/explore/*.txt examples/explore/classic/*.txt; do
         play_example sync-explore out "${text%.txt}"
         attempt python3 tools/replayed.py "$text" "${text%.txt}.out"
         judge "the texts in ${text%.txt}.out" 0 /dev/null /dev/null
+    done
+    # Of the textbooks' problems nobody is stuck, in any schedule, but in the wrong solutions.
+    for text in examples/explore/classic/*[!g].txt; do
+        attempt ./sync-explore < <(grep -v "^never " "$text" && echo "never stuck")
+        if [[ $status == 0 && $(<"$room/out") == "never: "* ]]; then
+            succeed
+        else
+            fail "never stuck, of $text" "it ended with status $status, and said: $(<"$room/out")"
+        fi
+    done
+    for text in examples/explore/*.told; do
+        attempt ./sync-explore --told <"${text%.told}.txt"
+        judge "./sync-explore --told, of $text" 0 "$text" /dev/null
     done
     attempt python3 tools/brute.py --random 200 1
     judge_line "tools/brute.py" 0 "200 questions, 0 wrong" ""
     attempt python3 tools/brute.py --clients 300 1
     judge_line "tools/brute.py, of clients" 0 "300 questions, 0 wrong" ""
+    attempt python3 tools/brute.py --several 300 1
+    judge_line "tools/brute.py, of several objects" 0 "300 questions, 0 wrong" ""
     attempt python3 tools/own_locks.py 200 1
     judge_line "tools/own_locks.py" 0 "200 locks, 102 proved, 22 faulty, 0 wrong" ""
 }

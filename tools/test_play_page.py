@@ -47,7 +47,8 @@ def stored():
             picture = f"docs/pictures/{os.path.basename(stem)}.svg"
             if os.path.exists(picture):
                 yield "draw", text, read(picture), fault, status
-    for table in sorted(glob.glob("texts/sync-*/*.txt")):
+    # The page traces what it plays, and a lock of one's own is not traced.
+    for table in sorted(set(glob.glob("texts/sync-*/*.txt")) - {"texts/sync-play/own.txt"}):
         for text, printed in cases_in(read(table)):
             status, out, fault = wanted_of(printed)
             if is_text(written(text)):
@@ -126,6 +127,8 @@ class Cases:
         run("share.focus()")
         self.press("Enter")
         self.seen("the address is copied", "share.textContent === 'copied'")
+        self.go(width, "five parties", "#play/condvar+5/1+lock/1+run")
+        self.seen("the buttons of the last", "[...parties.querySelectorAll('[data-party=\"5\"] button')].at(-1)?.getBoundingClientRect().bottom <= innerHeight")
         self.browser.ask("Emulation.setTouchEmulationEnabled", enabled=False)
 
     def click_through(self, width):
@@ -172,9 +175,14 @@ class Cases:
         self.seen("it is played", "out.textContent.startsWith('1 success\\n') && mode() === 'play'")
         self.judge("where it is read", run("[text, picture].every(it => it.getBoundingClientRect().top >= 0 && it.getBoundingClientRect().top < innerHeight / 2)"), True)
         lit = "out.querySelector('mark')?.textContent === '2 go 1\\n'"
-        for name, found in (("a lost wake", lit), ("Peterson's lock", "answers.textContent.includes('never: ')"), ("two philosophers", "out.textContent.includes('fetch_or')")):
+        for name, found in (("a lost wake", lit), ("Peterson's lock", "answers.textContent.includes('never: ')"), ("two philosophers", "out.textContent.includes('right.lock')")):
             run(f"[...document.querySelectorAll('nav a')].find(it => it.textContent === {json.dumps(name)}).click()")
             self.seen(name, f"mode() === 'explore' && {found}", 60)
+            if found == lit:
+                run("answers.querySelector('button').click()")
+                self.seen("where all was lost, once it is played", "lost.textContent.includes('line 6, 2 go 1;') && / 6 +2 /.test(trace.querySelector('mark').textContent)")
+                run("put(lines().slice(0, 5))")
+                self.seen("and not before", "job === undefined && !lost.textContent && !trace.querySelector('mark')")
 
     def go_amiss(self):
         run = self.browser.run

@@ -430,7 +430,8 @@ fn fits_row(word: Word, roles: &[Role], role: Role, row: &Row) -> bool
     }
 }
 
-fn fits_at(word: Word, roles: &[Role], rows: &[Row], at: usize) -> bool
+/// Whether a row fits its role. Where there is neither, that is so too.
+pub fn fits_at(word: Word, roles: &[Role], rows: &[Row], at: usize) -> bool
     ensures { result ≡ fits_row word roles.now (slice_get roles.now at) (slice_get rows.now at) }
 {
     match (roles.get(at), rows.get(at)) {

@@ -5,10 +5,12 @@ ghost use Rattle.std.specs.Prelude.{◌≡◌};
 ghost use Rattle.model_events.specs.declared.WaitAction.TheVariants as actions;
 
 mod sleepers;
+mod steps;
 
 use model_events::WaitAction;
 pub use sleepers::{Sleepers, none_sleeps_uncounted};
 use std::thread;
+pub use steps::{SleepStep, WakeStep, sleep_by, wake_by};
 
 /// A wait closure: yields, and never gives up. So a call that waits by it is never interrupted, by proof.
 #[inline(always)]

@@ -8,6 +8,8 @@
 //! 3. If so it parks, on the epoch that it took: the system puts it to sleep only while the epoch is that.
 //! 4. Else it counts itself out, unless a wake has done so.
 //!
+//! So they are proved to be made, in that order (`steps.rt`), whatever a step is: what each does to the word is a line below.
+//!
 //! Who changes the watched word does so before it wakes, and a wake reads the count first. So where the look came before the change, the
 //! wake finds the sleeper counted, moves the epoch on, and wakes whoever has parked: the sleeper does not park, or is woken, or another
 //! that parked is, and then it is counted still. Where the look came after the change, it does not sleep.
@@ -22,16 +24,15 @@ ghost use Rattle.std.specs.Time.{instant_nanos};
 ghost use Rattle.model_events.specs.declared.WaitAction.TheVariants as actions;
 ghost use Rattle.running_closures.specs.Crowds.{NoneSleepsUncounted};
 
+use crate::steps::{ONE, SleepStep, WakeStep, sleep_by, wake_by};
 use model_events::WaitAction;
+use model_events::event::Wake;
 use running_passes::{Watched, low_half};
 use std::sync::Wait;
 use std::sync::atomic::{AtomicU64, Ordering};
 use std::time::{Clock, Duration, Instant};
 
 const ORDER: Ordering = Ordering::SeqCst;
-
-/// One that may be asleep, in the high half.
-const ONE: u64 = 1 << 32;
 
 /// From here on nobody is counted: it is more than any system has threads.
 const MANY: u64 = 1 << 63;
@@ -89,56 +90,84 @@ impl Sleepers {
     /// Wakes one that sleeps, if there is one.
     #[inline(always)]
     pub fn wake_one(&self) {
-        if self.state.load(ORDER) >= ONE {
-            self.wake_one_counted();
-        }
+        wake_by(Wake::One, |step| self.make_wake(step));
     }
 
     /// Wakes all that sleep.
     #[inline(always)]
     pub fn wake_all(&self) {
-        if self.state.load(ORDER) >= ONE {
-            self.wake_all_counted();
+        wake_by(Wake::All, |step| self.make_wake(step));
+    }
+
+    /// Makes a step of a wake.
+    #[inline(always)]
+    fn make_wake(&self, step: WakeStep) -> u64 {
+        match step {
+            WakeStep::Reads => self.state.load(ORDER),
+            WakeStep::CountsOut(Wake::One) => self.change(one_woken),
+            WakeStep::CountsOut(Wake::All) => self.change(all_woken),
+            WakeStep::Asks(wake) => self.ask(wake),
         }
     }
 
-    fn wake_one_counted(&self) {
-        if self.state.fetch_update(ORDER, ORDER, one_woken).is_ok() {
-            self.state.wake_one();
+    /// Has the system wake one that sleeps, or all.
+    #[inline(never)]
+    fn ask(&self, wake: Wake) -> u64 {
+        match wake {
+            Wake::One => self.state.wake_one(),
+            Wake::All => self.state.wake_all(),
         }
+        0
     }
 
-    fn wake_all_counted(&self) {
-        if self.state.fetch_update(ORDER, ORDER, all_woken).is_ok() {
-            self.state.wake_all();
-        }
-    }
-
-    /// The four steps: a sleep of any length, or of so long at most.
+    /// The steps of a sleep, of any length, or of so long at most.
     fn sleep_for<R: Wait, W: Watched>(&self, rt: &R, word: &W, seen: u64, most: Option<Duration>) {
-        let epoch = self.count_in();
-        if word.load() != seen {
-            self.count_out(epoch);
-            return;
+        sleep_by(seen, |step| self.make_sleep(rt, word, most, step));
+    }
+
+    /// Makes a step of a sleep.
+    fn make_sleep<R: Wait, W: Watched>(
+        &self,
+        rt: &R,
+        word: &W,
+        most: Option<Duration>,
+        step: SleepStep,
+    ) -> u64 {
+        match step {
+            SleepStep::Comes => self.count_in(),
+            SleepStep::Looks => word.load(),
+            SleepStep::Turns { epoch } => self.change(|found| one_less(found, epoch)),
+            SleepStep::Parks { epoch } => self.park(rt, most, epoch),
         }
+    }
+
+    /// Sleeps on this epoch, for any length, or for so long at most.
+    fn park<R: Wait>(&self, rt: &R, most: Option<Duration>, epoch: u32) -> u64 {
         match most {
             Some(most) => self.state.park_timeout(rt, epoch, most),
             None => self.state.park(rt, epoch),
         }
+        0
     }
 
-    fn count_in(&self) -> u32 {
+    /// Counts one in, and answers the word as it was.
+    fn count_in(&self) -> u64 {
         let found = self.state.fetch_add(ONE, ORDER);
         if found >= MANY {
             self.state.fetch_sub(ONE, ORDER);
         }
-        low_half(found)
+        found
     }
 
-    fn count_out(&self, epoch: u32) {
-        let _ = self
-            .state
-            .fetch_update(ORDER, ORDER, |found| one_less(found, epoch));
+    /// Changes the word where there is a next one, and answers the word as it was.
+    #[inline(never)]
+    fn change<F: Fn(u64) -> Option<u64>>(&self, next: F) -> u64
+        requires may { F.IsAlwaysCallable next }
+    {
+        match self.state.fetch_update(ORDER, ORDER, next) {
+            Ok(found) => found,
+            Err(found) => found,
+        }
     }
 }
 

@@ -11,7 +11,7 @@ pub use Rattle.running_model.specs.Counts.{HasDone}
 pub use Rattle.running_model.specs.Sees.{sights_after}
 pub use Rattle.running_model.proofs.OfARun.{of_a_run}
 pub use Rattle.running_model.proofs.Steps.{told_so, missed_so}
-pub use Rattle.running_once.specs.Once.{once_model, no_runs, both_runs, known_runs, runs_after, AreRunsIn, OnceView, OneClosure, KnownHasEnded, ClosuresAreOfARun, ended, Says, runs_add_up}
+pub use Rattle.running_once.specs.Once.{once_model, no_runs, both_runs, known_runs, runs_after, AreRunsIn, OnceView, OneClosure, KnownHasEnded, WordTellsClosures, ClosuresAreOfARun, ended, Says, runs_add_up}
 pub use Rattle.running_once.specs.OnceShown.{PlayedPass, HasBegun, HasOnlyWaited, IsTaken}
 pub use Rattle.running_model.specs.Turns.{IsOver}
 pub use Rattle.running_model.specs.Tries.{IsToEnd}

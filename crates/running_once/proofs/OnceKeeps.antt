@@ -1,5 +1,6 @@
 -- What a step makes of what a pass saw and knows, and what the run says of it.
-use Rattle.running_once.proofs.Names.{carried_out, value_told, MatchBool, Word, Intent, MayStep, Coming, View, total, sum_of, none_played, both_played, core_played, played_add_up, IsSamePass, view, IsShare, Told, sights_of, parties_of, counted, ◌≡◌, ◌≢◌, ℕ, ◌+◌, ◌==◌, Bool, true, ◌||◌, List, [], ◌∷◌, refl, ap, sym, subst, ◌∙◌, arith, Some, HasLooked, others, sum_at, HasDone, sights_after, of_a_run, told_so, missed_so, Runs, once_model, no_runs, both_runs, known_runs, runs_after, AreRunsIn, OnceView, OneClosure, KnownHasEnded, ClosuresAreOfARun, ended, Says, PlayedPass, HasBegun, HasOnlyWaited, IsTaken, runs_add_up, nat_tests, eqb-true, eqb-false}
+use Rattle.running_model.proofs.Words.{hold_at}
+use Rattle.running_once.proofs.Names.{carried_out, value_told, MatchBool, Word, Intent, MayStep, Coming, View, total, sum_of, none_played, both_played, core_played, played_add_up, IsSamePass, view, IsShare, Told, sights_of, parties_of, counted, ◌≡◌, ◌≢◌, ℕ, ◌+◌, ◌==◌, Bool, true, ◌||◌, List, [], ◌∷◌, refl, ap, sym, subst, ◌∙◌, arith, Some, HasLooked, others, sum_at, HasDone, sights_after, of_a_run, told_so, missed_so, Runs, once_model, no_runs, both_runs, known_runs, runs_after, AreRunsIn, OnceView, OneClosure, KnownHasEnded, WordTellsClosures, ClosuresAreOfARun, ended, Says, PlayedPass, HasBegun, HasOnlyWaited, IsTaken, runs_add_up, nat_tests, eqb-true, eqb-false}
 
 or_true : (x y : Bool) → x ≡ true → (x || y) ≡ true
 or_true x y h1 = grind (arith, nat_tests, eqb-true, eqb-false)
@@ -48,6 +49,9 @@ known_has_ended s r i v here complete =
     let known = ap (λ t. t.counts.complete) at in
     total_ended s.views
     ∙ r.agree.follows.known (known ∙ or_true v.tally.counts.complete (others (none_played no_runs) (both_played both_runs) s.views i).counts.complete complete)
+
+pub word_tells : WordTellsClosures
+word_tells s r = hold_at (Word.State ∷ []) s.words 0 Word.State _ r.agree.played.hold refl ∙ r.agree.follows.word
 
 pub closures_are_of_a_run : ClosuresAreOfARun
 closures_are_of_a_run s r = of_a_run once_model (Word.State ∷ []) (λ _ _ _. Unit {0}) AreRunsIn s.words s.homes (sum_of (none_played no_runs) (both_played both_runs) s.views) r.agree

@@ -1,5 +1,5 @@
 -- What the passes of a once count and know, the model that a once plays, the rule over all passes, and that the counts follow the run.
-use Rattle.std.specs.Prelude.{ℕ, List, ◌≡◌, ◌+◌, ◌*◌, ◌≤◌, Bool, true, false, ◌||◌, ◌==◌, [], ◌∷◌}
+use Rattle.std.specs.Prelude.{ℕ, List, slice_index, ◌≡◌, ◌+◌, ◌*◌, ◌≤◌, Bool, true, false, ◌||◌, ◌==◌, [], ◌∷◌}
 use Rattle.running_once.specs.Names.{Event, OncePlace, once_table, KeepsOnce, u64_arithmetic, Model, IsPast, keeps_once, Word, Call, Act, begins_in, ends_in, View, IsWhole, total, view_of, looked, IsCounted, sum_of, Played, none_played, both_played, PlaysAndCounts, IsOfARun, some, get_elem?, State, word_in, acts_in, Runs, OnceScript, cond, refl, ◌∙◌, arith, eqb-true, eqb-false, nat_tests, word_after, carried_out, once_intent, is_begin, is_end, StaysOnNoWord, GoesOnByActs, IsTally}
 
 -- The model that it plays.
@@ -67,6 +67,10 @@ OneClosure = (s : State (Unit {0}) OnceView) → IsRuled s → total (λ u. u.ta
 -- whenever it does, and a pass knows that a closure has ended, one of all passes' has
 abbrev pub KnownHasEnded : Type 0
 KnownHasEnded = (s : State (Unit {0}) OnceView) → IsRuled s → (i : ℕ) (v : OnceView) → get_elem? s.views i ≡ some v → v.tally.counts.complete ≡ true → total (λ u. u.tally.counts.ended) s.views ≡ 1
+
+-- and the word is what they counted together come to: 0 where none began, 1 while one runs, 2 once it has ended
+abbrev pub WordTellsClosures : Type 0
+WordTellsClosures = (s : State (Unit {0}) OnceView) → IsRuled s → Amounts (slice_index s.words 0) (sum_of (none_played no_runs) (both_played both_runs) s.views).counts
 
 -- at 2 the pass knows that a closure has ended
 abbrev pub sees : ℕ → Runs → Runs

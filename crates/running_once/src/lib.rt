@@ -7,7 +7,7 @@
 ghost use Rattle.std.specs.Prelude.{◌≡◌, ℕ, IfOk};
 ghost use Rattle.running_model.specs.Passes.{counts_of};
 ghost use Rattle.running_model.specs.Stages.{count_of};
-ghost use Rattle.running_once.specs.Once.{ClosuresAreOfARun, OneClosure, KnownHasEnded};
+ghost use Rattle.running_once.specs.Once.{ClosuresAreOfARun, OneClosure, KnownHasEnded, WordTellsClosures};
 ghost use Rattle.running_once.specs.OnceLaws.{DoneComesAfterTheEnd, TrueComesAfterTheEnd};
 
 mod shares;
@@ -444,12 +444,13 @@ fn running() -> u64
     }
 }
 
-/// Whenever the rule of a once holds, all its passes together began one closure at most; and where one of them knows that a closure
-/// ended, one did. Says so of the rule alone, and does nothing.
-#[tactic(auto, using(crate::proofs::OnceKeeps::one_closure, crate::proofs::OnceKeeps::known_has_ended))]
+/// Whenever the rule of a once holds, all its passes together began one closure at most; where one of them knows that a closure ended, one
+/// did; and the word is 0 where none began, 1 while one runs, 2 once it has ended. Says so of the rule alone, and does nothing.
+#[tactic(auto, using(crate::proofs::OnceKeeps::one_closure, crate::proofs::OnceKeeps::known_has_ended, crate::proofs::OnceKeeps::word_tells))]
 pub fn one_closure_at_most()
     ensures one { OneClosure }
     ensures known { KnownHasEnded }
+    ensures word { WordTellsClosures }
 {}
 
 /// In the run in which a `CallOnce` was answered `Done`, or an `IsCompleted` `true`, the closure had ended before. Says so of the model

@@ -1,11 +1,12 @@
-//! Plays a schedule text, of one object or of several, read from standard input, and writes what its events print to standard output.
+//! Plays a schedule text, of one object, of several or of a lock of one's own, read from standard input, and writes what its events print to
+//! standard output.
 //!
 //! A fault is told on standard error in one line. The exit status is 0 where the text was played, 2 for a fault of the text,
 //! and 1 where reading, writing or memory failed.
 #![tactic(auto)]
 
+use own_play::run;
 use std::process::ExitCode;
-use text_room::run;
 
 fn main(rt: HostRuntime) -> ExitCode {
     match run(rt.alloc(), &mut rt.stdin(), &mut rt.stdout()) {

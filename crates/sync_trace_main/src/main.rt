@@ -7,7 +7,7 @@
 
 use std::io::Write;
 use std::process::ExitCode;
-use text_trace::run::run;
+use text_advice::trace::run;
 
 fn main(rt: HostRuntime) -> ExitCode {
     match run(rt.alloc(), &mut rt.stdin(), &mut rt.stdout()) {

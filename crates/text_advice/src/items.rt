@@ -6,7 +6,7 @@ use crate::repeat::{lacks_blanks, repeat_apart};
 use crate::sentence::{list_calls, no_call, of_method};
 use crate::variables::{add_variables, has_variable, named};
 use crate::words::{
-    Added, Spot, bare, before, before_left, before_word, cut_word, first_word, front_of, has,
+    Added, Spot, Told, bare, before, before_left, before_word, cut_word, first_word, front_of, has,
     has_like, has_mark, insert, is_no_number, is_odd_number, mean, no_number, none_here,
     parentheses, put, run_of, say, second_spot, show, swap,
 };
@@ -173,22 +173,159 @@ fn beside(number: &[u8], after: bool) -> &[u8] {
     b""
 }
 
+/// The relation and the value of the contrary of a test. Empty where there are none.
+fn contrary<'a>(relation: &[u8], value: &'a [u8]) -> (&'a [u8], &'a [u8]) {
+    let up = is(relation, b">");
+    let other = beside(value, up);
+    match relation {
+        b"=" | b"==" => (b" != ", value),
+        b"!=" => (b" = ", value),
+        b"<" | b">" if !other.is_empty() => (if up { b" < " } else { b" > " }, other),
+        _ => (b"", b""),
+    }
+}
+
 /// Of an `else`, by the test before it.
 fn no_else(out: &mut Vec<u8>, at: Spot<'_>) -> Added {
     let words = b"there is no `else`: a second test looks again, for the contrary";
     let (variable, test) = cut_word(cut_word(at.test).1);
     let (relation, test) = cut_word(test);
-    let value = first_word(test);
-    let up = is(relation, b">");
-    let other = beside(value, up);
-    let (middle, end): (&[u8], &[u8]) = match relation {
-        b"=" => (b" != ", value),
-        b"!=" => (b" = ", value),
-        b"<" | b">" if !other.is_empty() => (if up { b" < " } else { b" > " }, other),
-        _ => return out.extend_from_slice(words),
-    };
+    let (middle, end) = contrary(relation, first_word(test));
+    if middle.is_empty() {
+        return out.extend_from_slice(words);
+    }
     let (front, rest) = (bare(before_left(at)), at.behind);
     show(out, words, &[front, b", if ", variable, middle, end, rest])
+}
+
+/// Of a wait until this test holds.
+fn no_wait<'a>(out: &mut Vec<u8>, at: Spot<'a>, test: &'a [u8]) -> Added {
+    let (variable, rest) = cut_word(test);
+    let (relation, rest) = cut_word(rest);
+    let (value, rest) = next_token(rest).unwrap_or((b"", b""));
+    let (middle, end) = contrary(relation, value);
+    let sleeps = matches!(at.object, Object::Condvar);
+    let item: &[u8] = if sleeps {
+        b" start_wait"
+    } else {
+        b" set idle 0"
+    };
+    out.extend_from_slice(b"a wait for a variable is a loop")?;
+    if !sleeps {
+        out.extend_from_slice(b", with a line `let idle 0` before")?;
+    }
+    if middle.is_empty() {
+        return say(out, b": while x = 0", item, b"");
+    }
+    let begins = begins_items(at.object, bare(first_word(rest)));
+    let gap: &[u8] = if begins { b"," } else { b"" };
+    let front = before_word(at);
+    show(
+        out,
+        b"",
+        &[front, b"while ", variable, middle, end, item, gap, rest],
+    )
+}
+
+/// Of what is to hold where it stands.
+fn no_assertion(out: &mut Vec<u8>, at: Spot<'_>) -> Added {
+    let words =
+        b"with a line `let bad 0` before, an item looks, and the last line asks `never bad 1`";
+    let (variable, rest) = cut_word(at.behind);
+    let (relation, rest) = cut_word(rest);
+    let (value, rest) = next_token(rest).unwrap_or((b"", b""));
+    let (middle, end) = contrary(relation, value);
+    if middle.is_empty() {
+        return show(out, words, &[b"if x > 2 set bad 1"]);
+    }
+    let front = before_word(at);
+    show(
+        out,
+        words,
+        &[front, b"if ", variable, middle, end, b" set bad 1", rest],
+    )
+}
+
+/// Of a loop without a test, whose items are left.
+fn no_loop(out: &mut Vec<u8>, at: Spot<'_>) -> Added {
+    let front = before_word(at);
+    if is(first_word(at.behind), b"(") {
+        return put(out, ENDLESS, at, b"while on = 1");
+    }
+    show(out, ENDLESS, &[front, b"while on = 1 (", at.behind, b" )"])
+}
+
+/// What is said of a number of rounds.
+const COUNTED: &[u8] =
+    b"items go round as often as a variable says, with a line `let n 0` before: while n < 3 ( add n 1, .. )";
+
+/// What is said where nothing is to be done.
+const NOTHING: &[u8] = b"with a line `let idle 0` before, `set idle 0` does nothing";
+
+/// What is said of a party that does not sleep.
+const AWAKE: &[u8] = b"who has no line `1 sleeps` looks again by itself, as one that spins";
+
+/// How a change of a variable begins that has this name elsewhere, and how it ends. Empty where there is none.
+fn change_elsewhere<'a>(word: &'a [u8]) -> (&'a [u8], &'a [u8]) {
+    if has(b"inc incr increment", word) {
+        (b"add ", b" 1")
+    } else if has(b"dec decr decrement", word) {
+        (b"sub ", b" 1")
+    } else if has(b"write assign put", word) {
+        (b"set ", b"")
+    } else if has(b"read get print", word) {
+        (b"set r ", b"")
+    } else {
+        (b"", b"")
+    }
+}
+
+/// Of a variable behind a word that is no item's.
+fn no_verb(out: &mut Vec<u8>, at: Spot<'_>) -> Told {
+    let (begin, end) = change_elsewhere(at.word);
+    let (name, rest) = next_token(at.behind).unwrap_or((b"", b""));
+    let is_one = !begin.is_empty() && has_variable(at.question, name);
+    if is_one {
+        let words: &[u8] = if begin.ends_with(b"r ") {
+            b"a variable is read by a test, or as a value, with a line `let r 0` before"
+        } else {
+            b"a variable changes by `set`, `add` or `sub`"
+        };
+        show(out, words, &[before_word(at), begin, name, end, rest])?;
+    }
+    Ok(is_one)
+}
+
+/// Of a word for which a question has another, where an item is to begin. Whether it is one.
+fn of_stranger(out: &mut Vec<u8>, at: Spot<'_>) -> Told {
+    let (second, rest) = cut_word(at.behind);
+    if no_verb(out, at)? {} else if has(b"await until", at.word) {
+        no_wait(out, at, at.behind)?;
+    } else if has(b"wait sleep block spin", at.word) && has(b"until for", second) {
+        no_wait(out, at, rest)?;
+    } else if is(at.word, b"assert") {
+        no_assertion(out, at)?;
+    } else if is(at.word, b"for") || is(second, b"times") {
+        out.extend_from_slice(COUNTED)?;
+    } else if has(b"loop repeat forever do", at.word) {
+        no_loop(out, at)?;
+    } else if has(b"skip nop noop pass yield pause", at.word) {
+        put(out, NOTHING, at, b"set idle 0")?;
+    } else if has(b"spin spins busy", at.word) || is(second, b"sleeps") {
+        out.extend_from_slice(AWAKE)?;
+    } else if has(b"can might", at.word) {
+        mean(out, at, b"may")?;
+    } else if has(b"return exit end stop break halt", at.word) {
+        out.extend_from_slice(b"a party ends behind its last item, and a test skips others")?;
+    } else if is(at.word, b"let") {
+        let words = b"`let` stands in a line of its own, before";
+        show(out, words, &[b"let ", bare(second), b" 0"])?;
+    } else if has(b"= := += -= ++ --", second) {
+        unknown_variable(out, at)?;
+    } else {
+        return Ok(false);
+    }
+    Ok(true)
 }
 
 /// Of an `or` between two tests, of which the first is that of the item.
@@ -246,12 +383,12 @@ fn no_item(out: &mut Vec<u8>, at: Spot<'_>) -> Added {
         no_joint(out, at)
     } else if has(b"+ -", at.word) {
         out.extend_from_slice(NO_SUM)
-    } else if !is_no_number(at.word) {
+    } else if !is_no_number(at.word) && !is(first_word(at.behind), b"times") {
         other_party(out, at)
     } else if has_variable(at.question, operand(at.left).0) {
         no_change(out, at, at.left)
-    } else if is(at.word, b"loop") {
-        put(out, ENDLESS, at, b"while on = 1")
+    } else if of_stranger(out, at)? {
+        Ok(())
     } else if has(b"go run", at.word) {
         out.extend_from_slice(b"a question's calls move on by themselves, in every order")
     } else if !near.is_empty() {
@@ -327,6 +464,62 @@ fn no_look(out: &mut Vec<u8>, at: Spot<'_>) -> Added {
     show(out, words, &[front, b" last ", answer, b" then", rest])
 }
 
+/// The answer of a call of the object that came in, or of one that did not. Empty where there is none.
+fn answer_of<'a>(at: Spot<'a>, denies: bool) -> &'a [u8] {
+    match at.object {
+        Object::Once => if denies { b"false" } else { b"true" },
+        _ if !has(answers_of(at.object), b"success") => b"",
+        _ => if denies { b"interrupted" } else { b"success" },
+    }
+}
+
+/// The answer for which a call is tested that is left with what comes behind it, and what is left behind that.
+fn tested_for<'a>(at: Spot<'a>, rest: &'a [u8], denies: bool) -> (&'a [u8], &'a [u8]) {
+    let rest = rest.strip_prefix(b",").unwrap_or(rest);
+    let (joint, behind) = cut_word(rest);
+    if has(b"= == is", joint) {
+        cut_word(behind)
+    } else {
+        (answer_of(at, denies), rest)
+    }
+}
+
+/// Of a call in the place of a test, or of one that is denied, and what is left behind it.
+fn no_look_at<'a>(
+    out: &mut Vec<u8>,
+    at: Spot<'a>,
+    call: &'a [u8],
+    rest: &'a [u8],
+    denies: bool,
+) -> Added {
+    let (answer, rest) = tested_for(at, rest, denies);
+    let (then, behind) = cut_word(rest);
+    let rest = if has(b"then succeeds fails", then) {
+        behind
+    } else {
+        rest
+    };
+    let loops = is(first_word(at.item), b"while");
+    let rest: &[u8] = if loops { b" .." } else { rest };
+    let words = b"a test looks at variables, and `last` at the answer of a call before it";
+    let front = before(at.line, at.item.len());
+    show(
+        out,
+        words,
+        &[front, b" ", call, b", last ", answer, b" then", rest],
+    )
+}
+
+/// Adds that no variable has this name.
+fn unknown_variable(out: &mut Vec<u8>, at: Spot<'_>) -> Added {
+    let (front, end): (&[u8], &[u8]) = (
+        b"there is no variable `",
+        b"`: a line before names each, as `let x 0`",
+    );
+    say(out, front, at.word, end)?;
+    add_variables(out, at.question)
+}
+
 /// What is said of a loop without end.
 const ENDLESS: &[u8] = b"a loop without end, with a line `let on 1` before, is `while on = 1`";
 
@@ -335,7 +528,17 @@ fn no_variable(out: &mut Vec<u8>, at: Spot<'_>) -> Added {
     let (near, _) = named(at.question, at.word, true);
     let (first, answers) = (first_word(at.item), answers_of(at.object));
     let (name, rest) = denied(at);
-    if has_variable(at.question, name) {
+    let denies = !name.is_empty();
+    let (call, behind) = if denies {
+        (name, rest)
+    } else {
+        (at.word, at.behind)
+    };
+    let call = front_of(call, b"(");
+    let calls = behind_call(at.object, call).is_some();
+    if calls && has(b"if while", first) && !answer_of(at, denies).is_empty() {
+        no_look_at(out, at, call, behind, denies)
+    } else if has_variable(at.question, name) {
         let words = b"a test compares with a value";
         show(out, words, &[before_left(at), b" ", name, b" = 0", rest])
     } else if at.word.starts_with(b"(") {
@@ -352,14 +555,7 @@ fn no_variable(out: &mut Vec<u8>, at: Spot<'_>) -> Added {
     } else if !near.is_empty() {
         mean(out, at, near)
     } else {
-        let words = b"there is no variable `";
-        say(
-            out,
-            words,
-            at.word,
-            b"`: a line before names each, as `let x 0`",
-        )?;
-        add_variables(out, at.question)
+        unknown_variable(out, at)
     }
 }
 
@@ -400,6 +596,10 @@ fn no_relation(out: &mut Vec<u8>, at: Spot<'_>) -> Added {
         put(out, b"`=` is written once", at, b"=")
     } else if is(at.word, b"<>") {
         put(out, b"a test has one of =, !=, <, >", at, b"!=")
+    } else if is(at.word, b"is") && is(value, b"not") {
+        show(out, OF_TEST, &[before_word(at), b"!=", rest])
+    } else if has(b"is equals eq", at.word) {
+        put(out, OF_TEST, at, b"=")
     } else if has(b"<= >= => =<", at.word) {
         let words = b"a test has one of =, !=, <, >, and `<= 3` is `< 4`, `>= 3` is `> 2`";
         let relation: &[u8] = if up { b" < " } else { b" > " };
@@ -449,6 +649,8 @@ fn no_comma(out: &mut Vec<u8>, at: Spot<'_>) -> Added {
         swap(out, b"no parenthesis is open here", at, b"")
     } else if !is_no_number(at.word) && begins_items(at.object, bare(first_word(at.behind))) {
         other_party(out, at)
+    } else if is(first_word(at.behind), b"times") {
+        out.extend_from_slice(COUNTED)
     } else if !is_no_number(at.word) {
         swap(out, b"no number follows here", at, b"")
     } else if is(at.word, b"else") {
@@ -469,7 +671,11 @@ fn no_comma(out: &mut Vec<u8>, at: Spot<'_>) -> Added {
 fn is_glued(at: Spot<'_>, next: Next) -> bool {
     let speaks = match next {
         Next::Item | Next::Tested => has_variable(at.question, operand(at.word).0),
-        Next::Variable => at.word.starts_with(b"(") || at.word.starts_with(b"!"),
+        Next::Variable => {
+            at.word.starts_with(b"(")
+                || at.word.starts_with(b"!")
+                || behind_call(at.object, front_of(at.word, b"(")).is_some()
+        }
         Next::Amount => has_mark(at.word, b"+-"),
         _ => false,
     };
@@ -487,7 +693,10 @@ fn no_word(out: &mut Vec<u8>, at: Spot<'_>, next: Next) -> Added {
         )?;
         return repeat_apart(out, at.line);
     }
+    let idles = has(b"wait sleep yield spin", at.word)
+        && nearest_call(at.object, at.word).is_empty();
     match next {
+        Next::Tested if idles => put(out, NOTHING, at, b"set idle 0"),
         Next::Item | Next::Tested => no_item(out, at),
         Next::Variable | Next::Changed => no_variable(out, at),
         Next::Relation => no_relation(out, at),

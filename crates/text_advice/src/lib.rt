@@ -14,6 +14,7 @@ pub mod question;
 mod repeat;
 mod sentence;
 mod several;
+pub mod trace;
 mod variables;
 mod words;
 

@@ -7,6 +7,8 @@ use text_lines::lexer::{is, next_line, next_word};
 
 const STEPS: &[u8] = b"load store swap add sub exchange wake";
 
+const CALLS: &[u8] = b"lock try_lock unlock";
+
 /// Whether a text is one of a lock of one's own.
 pub fn begins_own(text: &[u8]) -> bool {
     match next_line(text) {
@@ -33,6 +35,51 @@ fn word_behind(line: &[u8], count: usize) -> &[u8] {
     unmarked(first_word(rest))
 }
 
+/// Whether a line behind the second begins with this name.
+fn begins_a_line(question: &[u8], name: &[u8]) -> bool {
+    let mut rest = question;
+    for number in 1..question.len() {
+        let Some((line, behind)) = next_line(rest) else {
+            break;
+        };
+        if number > 2 && is(unmarked(first_word(line)), name) {
+            return true;
+        }
+        rest = behind;
+    }
+    false
+}
+
+/// The first row to which a line leads and that no line has. Empty where there is none.
+fn unknown_row<'t>(question: &[u8], line: &'t [u8]) -> &'t [u8] {
+    let mut rest = line;
+    let mut is_led = false;
+    for _ in 0..line.len() {
+        let Some((word, behind)) = next_word(rest) else {
+            break;
+        };
+        let word = unmarked(word);
+        if is_led && !begins_a_line(question, word) {
+            return word;
+        }
+        is_led = is(word, b"at") || is(word, b"refused");
+        rest = behind;
+    }
+    b""
+}
+
+/// The word of a row's step, where the second line does not name it. Empty where it does.
+fn unknown_word<'t>(question: &[u8], line: &'t [u8]) -> &'t [u8] {
+    let (_, behind) = next_line(question).unwrap_or((b"", b""));
+    let (names, _) = next_line(behind).unwrap_or((b"", b""));
+    let word = word_behind(line, 2);
+    if is(word_behind(line, 1), b"wake") || tells(names, word) {
+        b""
+    } else {
+        word
+    }
+}
+
 /// Whether a line has this word.
 fn tells(line: &[u8], word: &[u8]) -> bool {
     let mut rest = line;
@@ -49,7 +96,19 @@ fn tells(line: &[u8], word: &[u8]) -> bool {
 }
 
 /// Of a row.
-fn of_row(out: &mut Vec<u8>, line: &[u8]) -> Result<(), AllocError> {
+fn of_row(out: &mut Vec<u8>, question: &[u8], line: &[u8]) -> Result<(), AllocError> {
+    let (word, row) = (unknown_word(question, line), unknown_row(question, line));
+    if !word.is_empty() {
+        say(out, b"the second line names no word `", word, b"`")
+    } else if !row.is_empty() {
+        say(out, b"there is no row `", row, b"`")
+    } else {
+        of_ways(out, line)
+    }
+}
+
+/// Of a row whose word and rows are there.
+fn of_ways(out: &mut Vec<u8>, line: &[u8]) -> Result<(), AllocError> {
     let has_test = tells(line, b"is") || tells(line, b"below") || tells(line, b"odd");
     out.extend_from_slice(if tells(line, b"refused") && !tells(line, b"told") {
         b"a refusal says what its wait closure is told, a number or `found`: refused look, told found"
@@ -58,12 +117,12 @@ fn of_row(out: &mut Vec<u8>, line: &[u8]) -> Result<(), AllocError> {
     } else if tells(line, b"else") && !has_test {
         b"before `else` stand a test and its way: is 0: at take; else at look"
     } else {
-        b"a row is `<name>: <step>; <way>`, or `<name>: <step>; <test>: <way>; else <way>`, its name is new, and each word and row has the name that it has elsewhere: take: exchange state 0 1; is 0: success, hold write; else at look"
+        b"a row is `<name>: <step>; <way>`, or `<name>: <step>; <test>: <way>; else <way>`, and its name is new: take: exchange state 0 1; is 0: success, hold write; else at look"
     })
 }
 
 /// Of a line behind the words.
-fn of_line(out: &mut Vec<u8>, line: &[u8]) -> Result<(), AllocError> {
+fn of_line(out: &mut Vec<u8>, question: &[u8], line: &[u8]) -> Result<(), AllocError> {
     let (first, second) = (word_behind(line, 0), word_behind(line, 1));
     if has_comment(line) {
         of_comment(out, line)
@@ -71,12 +130,14 @@ fn of_line(out: &mut Vec<u8>, line: &[u8]) -> Result<(), AllocError> {
         out.extend_from_slice(b"the last line asks: never two holders")
     } else if is(first, b"never") {
         out.extend_from_slice(b"one question is asked, in the last line: never two holders")
-    } else if has(b"lock try_lock unlock", first) {
+    } else if has(CALLS, first) && !second.is_empty() && !begins_a_line(question, second) {
+        say(out, b"there is no row `", second, b"`")
+    } else if has(CALLS, first) {
         out.extend_from_slice(
             b"a call has the name of its first row, and stands once: lock: look, or unlock: free, needs hold",
         )
     } else if has(STEPS, second) {
-        of_row(out, line)
+        of_row(out, question, line)
     } else if second.is_empty() {
         out.extend_from_slice(b"behind a name stands the first row of a call, or the step of a row")
     } else {
@@ -91,15 +152,23 @@ fn of_line(out: &mut Vec<u8>, line: &[u8]) -> Result<(), AllocError> {
 }
 
 /// Adds what would be right in the place of a line with this fault.
-pub fn advise(out: &mut Vec<u8>, line: &[u8], found: FaultyLine) -> Result<(), AllocError> {
+pub fn advise(
+    out: &mut Vec<u8>,
+    question: &[u8],
+    line: &[u8],
+    found: FaultyLine,
+) -> Result<(), AllocError> {
     match (found.fault, found.line) {
-        (LineFault::BadNumber, _) => out.extend_from_slice(
+        (LineFault::BadNumber, 2) => out.extend_from_slice(
             b"a number has digits alone, and is at most 18446744073709551615",
+        ),
+        (LineFault::BadNumber, _) => out.extend_from_slice(
+            b"a number has digits alone, and is at most 18446744073709551615, or it is `found`; behind `below` it has digits",
         ),
         (_, 1) => out.extend_from_slice(b"a lock of one's own begins with its name: object futex"),
         (_, 2) => out.extend_from_slice(
-            b"the second line names the lock's words, each with what it holds at first: words state 0, waiters 0",
+            b"the second line names the lock's words, six at most, each with what it holds at first: words state 0, tries 0",
         ),
-        _ => of_line(out, line),
+        _ => of_line(out, question, line),
     }
 }

@@ -208,14 +208,30 @@ fn of_line(out: &mut Vec<u8>, object: Object<()>, line: &[u8], fault: LineFault)
     }
 }
 
-/// What is said of a question that names several objects.
+/// What is said of a question that begins with one object, and names another.
 pub const ONE_OBJECT: &[u8] =
-    b"a question is about one object, which its first line names, as mutex 2";
+    b"a question about several objects begins with `parties 2`, and names each: let one mutex";
+
+/// The object that has this name elsewhere. Empty where there is none.
+fn object_elsewhere(name: &[u8]) -> &'static [u8] {
+    if has(b"rwlock RwLock RWLock rw_lock shared_mutex", name) {
+        b"rwwriter"
+    } else if is(name, b"cv") {
+        b"condvar"
+    } else {
+        b""
+    }
+}
 
 /// Of the first line of a text or a question that names no object which it may be about.
 pub fn no_object(out: &mut Vec<u8>, line: &[u8], what: &[u8], objects: &[u8]) -> Added {
     let at = first_spot(Object::Mutex, b"", line);
-    let near = nearest(objects, front_of(at.word, b"(<:;"));
+    let name = front_of(at.word, b"(<:;");
+    let near = match object_elsewhere(name) {
+        [] => nearest(objects, name),
+        other => other,
+    };
+    let asks = is(what, b"a question");
     if line.starts_with(b"\xef\xbb\xbf") {
         out.extend_from_slice(b"the first line has a byte-order mark")
     } else if has_comment(line) {
@@ -225,14 +241,19 @@ pub fn no_object(out: &mut Vec<u8>, line: &[u8], what: &[u8], objects: &[u8]) ->
             b" has no comments, and begins with its object",
             b"",
         )
-    } else if is_several(line) || is(at.word, b"let") && is(what, b"a question") {
+    } else if is_several(line) || is(at.word, b"let") && asks {
         out.extend_from_slice(ONE_OBJECT)
     } else if is(at.word, b"let") {
         out.extend_from_slice(b"a text that names its objects begins with `parties 2`")
     } else if !near.is_empty() {
         mean(out, at, near)
     } else {
-        say(out, what, b" begins with its object: ", objects)
+        say(out, what, b" begins with its object: ", objects)?;
+        out.extend_from_slice(if asks {
+            b"; one about a lock of your own with `object futex`"
+        } else {
+            b""
+        })
     }
 }
 

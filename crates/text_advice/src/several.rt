@@ -1,12 +1,15 @@
 //! What would be right in a line of a text of several objects.
 
+use crate::from_line;
+use crate::items::tells_of_closures;
 use crate::near::{nearest, nearest_call};
 use crate::objects::{first_value, noun, numbers_after, questions_objects, verbs_of};
+use crate::question::of_line;
 use crate::sentence::{OF_QUESTION, is_of_question, list_calls, of_any_party, of_number};
 use crate::variables::{add_names, named};
 use crate::words::{
-    Added, Spot, before, before_word, cut, cut_word, first_spot, first_word, has, has_comment,
-    is_no_number, mean, none_here, of_comment, say, second_spot, show,
+    Added, Spot, before, before_word, cut, cut_word, first_spot, first_word, front_of, has,
+    has_comment, has_mark, is_no_number, mean, none_here, of_comment, say, second_spot, show,
 };
 use model_events::event::Object;
 use text_lines::command::is_known;
@@ -14,6 +17,10 @@ use text_lines::fault::{FaultyLine, LineFault};
 use text_lines::lexer::{is, next_line};
 use text_lines::several::{is_several, may_name};
 use text_lines::value_type::object_named;
+
+/// What a term asks of an object that it names, beside its answers.
+const ASKED_OF: &[u8] =
+    b"success interrupted done ok full err true false waits write read word counter waiters value";
 
 /// Whether a text is one of several objects.
 pub fn begins_several(text: &[u8]) -> bool {
@@ -120,6 +127,64 @@ fn of_party(out: &mut Vec<u8>, text: &[u8], line: &[u8], fault: LineFault) -> Ad
             of_words(out, text, first_spot(Object::Mutex, b"", line))
         }
         _ => of_any_party(out, line, fault),
+    }
+}
+
+/// What a line of a question names with a dot behind it, from this object on: the first name that is none, or whose object has no such call or
+/// word; else the first name at all, and its object.
+fn named_at<'a>(question: &[u8], line: &'a [u8]) -> (Spot<'a>, bool) {
+    let mut at = first_spot(Object::Mutex, b"", line);
+    let mut found = at;
+    for _ in 0..line.len() {
+        at = second_spot(at);
+        let (name, call) = cut(front_of(at.word, b",)"));
+        if at.word.is_empty() {
+            break;
+        }
+        if call.is_empty() || !has_mark(at.word, b".") {
+            continue;
+        }
+        let Some(object) = object_of(question, name) else {
+            return (at, false);
+        };
+        found.object = object;
+        if !is_known(object, call) && !has(ASKED_OF, call) {
+            return (at, false);
+        }
+    }
+    (found, true)
+}
+
+/// Adds what would be right in the place of a line with this fault, of a question about several objects.
+pub fn advise_asked(out: &mut Vec<u8>, question: &[u8], line: &[u8], found: FaultyLine) -> Added {
+    let kind = second_spot(second_spot(first_spot(Object::Mutex, b"", line)));
+    if found.line == 1 || is(first_word(line), b"let") && is_no_number(kind.word) {
+        return advise(out, question, line, found);
+    }
+    let (at, are_known) = named_at(question, line);
+    let asks = has(b"find never", first_word(line));
+    let first = first_spot(
+        at.object,
+        before(question, from_line(question, found.line).len()),
+        line,
+    );
+    if !are_known && !asks {
+        of_call(out, question, at)
+    } else if asks && found.fault == LineFault::BadLine {
+        out.extend_from_slice(
+            b"a term about an object names it, as 1 holds one.write, one.word 1, 1 one.success, 1 items.waits; the names are: ",
+        )?;
+        add_names(out, question, b"")
+    } else if found.fault == LineFault::BadLine
+        && !is_no_number(first.word)
+        && !tells_of_closures(first.behind)
+    {
+        out.extend_from_slice(
+            b"a comma parts items; each is a call, which its object's name begins, as one.lock, or set, add, sub, if, while, last or ( .. ); the names are: ",
+        )?;
+        add_names(out, question, b"")
+    } else {
+        of_line(out, first, found)
     }
 }
 

@@ -1,10 +1,10 @@
 -- The lines of a table are read one after the other.
-use Rattle.std.proofs.Common.{◌≡◌, ◌++◌, ℕ, List, [], ◌∷◌, map, Ok, refl, ap}
+use Rattle.std.proofs.Common.{◌≡◌, ◌++◌, ℕ, List, [], ◌∷◌, map, Ok, refl}
+use Rattle.std.proofs.lemmas.List.{map-append}
 use Rattle.text_own.specs.Table.{first_value, words_from}
 
 pub map_more : {A B : Type 0} (f : A → B) (xs : List A) (x : A) → map f (xs ++ x ∷ []) ≡ map f xs ++ f x ∷ []
-map_more f [] x = refl
-map_more {A} {B} f (y ∷ xs) x = ap (λ (l : List B). f y ∷ l) (map_more f xs x)
+map_more f xs x = map-append f xs (x ∷ [])
 
 -- a word is named
 pub words_more : (names : List (List ℕ)) (opening : List ℕ) (words : List (List ℕ)) (name value : List ℕ) (after rest : List (List ℕ)) (n : ℕ) → words ≡ name ∷ after → after ≡ value ∷ rest → first_value names name value ≡ Ok n →

@@ -1,5 +1,6 @@
 pub mod Names
 pub mod Row
 pub mod Table
+pub mod Question
 pub mod Judge
 pub mod Answer

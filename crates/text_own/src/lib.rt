@@ -3,8 +3,11 @@
 #![tactic(auto)]
 
 mod judge;
+mod question;
 mod row;
 mod table;
 mod verdict;
 
-pub use verdict::{Judged, answer, begins_own};
+pub use row::word_at;
+pub use table::{Behind, Calls, OwnLock, read};
+pub use verdict::{Judged, answer, begins_own, unmarked};

@@ -73,7 +73,7 @@ fn plain_in(line: &[u8]) -> Read<'_, u64>
 }
 
 /// The word at a place among those that a text names.
-pub(crate) fn word_at(at: usize) -> Option<Word>
+pub fn word_at(at: usize) -> Option<Word>
     ensures { result ≡ meaning.word_at at }
 {
     match at {

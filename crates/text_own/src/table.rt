@@ -4,7 +4,7 @@ ghost use Rattle.text_lines.specs.Fault.{IsFaultOf, at_line};
 ghost use Rattle.text_lines.specs.Lexer.{lines_of, words_of};
 ghost use Rattle.text_own.specs.Table as meaning;
 
-use crate::row::{row_of, verb_of};
+use crate::row::{row_of, verb_of, word_at};
 use model_own::{Entry, Row};
 use std::alloc::{AllocError, Global};
 use text_lines::fault::{LineFault, TextFault};
@@ -31,14 +31,27 @@ pub struct OwnLock<'t> {
     pub rows: Vec<Row>,
 }
 
+/// What stands behind a table: the number of the line before, and the lines.
+#[derive(Clone, Copy)]
+pub struct Behind<'t> {
+    pub line: u64,
+    pub lines: &'t [u8],
+}
+
+/// The calls and the rows of a table, and what stands behind them.
+#[derive(Drop)]
+struct Lines<'t> {
+    calls: Calls,
+    rows: Vec<Row>,
+    behind: Behind<'t>,
+}
+
 /// What a line says.
 #[derive(Clone, Copy)]
 enum Said {
     Nothing,
     Row(Row),
     Calls(Calls),
-    /// It asks whether two may hold the lock: the last line.
-    Question,
 }
 
 pub(crate) fn push<T: Copy>(items: &mut Vec<T>, item: T) -> Result<(), AllocError>
@@ -62,26 +75,35 @@ fn is_call(name: &[u8]) -> bool
     is(name, b"lock") || is(name, b"try_lock") || is(name, b"unlock")
 }
 
-/// The label of a row's line, which is none of a call, nor the question.
+/// Whether this is the first word of a line.
+fn begins(word: &[u8], line: &[u8]) -> bool
+    ensures { result ≡ meaning.begins word.now (words_of line.now) }
+{
+    match next_word(line) {
+        Some((first, _)) => is(first, word),
+        None => false,
+    }
+}
+
+/// The label of a row's line, which is none of a call.
 fn label_of(line: &[u8]) -> Option<&[u8]>
     ensures { meaning.told_label result ≡ meaning.label_of (words_of line.now) }
 {
     let (label, _) = next_word(line)?;
-    if is_call(label) || is(label, b"never") {
-        None
-    } else {
-        Some(label)
-    }
+    if is_call(label) { None } else { Some(label) }
 }
 
-/// The labels of all rows.
+/// The labels of all rows before the line that begins with `stop`.
 #[tactic(auto, using(crate::proofs::TableLaws::map_more))]
-fn labels_of<'t>(alloc: Global, text: &'t [u8]) -> Result<Vec<&'t [u8]>, AllocError>
-    ensures { IfOk result (λ labels. map (λ l. l.now) labels.items ≡ meaning.labels_of (lines_of text.now)) }
+fn labels_of<'t>(alloc: Global, stop: &[u8], text: &'t [u8]) -> Result<Vec<&'t [u8]>, AllocError>
+    ensures { IfOk result (λ labels. map (λ l. l.now) labels.items ≡ meaning.labels_of stop.now (lines_of text.now)) }
 {
     let mut labels = Vec::new(alloc);
     let mut rest = text;
     while let Some((line, after)) = next_line(rest) {
+        if begins(stop, line) {
+            return Ok(labels);
+        }
         if let Some(label) = label_of(line) {
             push_name(&mut labels, label)?;
         }
@@ -148,48 +170,19 @@ fn with_call(calls: Calls, name: &[u8], entry: Entry) -> Result<Calls, LineFault
     }
 }
 
-/// Whether this word alone is left of a line.
-fn is_last(name: &[u8], line: &[u8]) -> bool
-    ensures { result ≡ meaning.is_last name.now (words_of line.now) }
-{
-    match next_word(line) {
-        Some((word, rest)) => is(word, name) && next_word(rest).is_none(),
-        None => false,
-    }
-}
-
-/// Whether a line asks the question: `never two holders`.
-fn is_question(first: &[u8], rest: &[u8]) -> bool
-    ensures { result ≡ meaning.is_question first.now (words_of rest.now) }
-{
-    match next_word(rest) {
-        Some((second, rest)) => {
-            is(first, b"never") && is(second, b"two") && is_last(b"holders", rest)
-        }
-        None => false,
-    }
-}
-
-/// What a line says, behind so many rows and these calls. Nothing may stand behind the question.
+/// What a line says, behind so many rows and these calls.
 fn read_line(
     names: &[&[u8]],
     labels: &[&[u8]],
     rows: usize,
     calls: Calls,
-    is_over: bool,
     line: &[u8],
 ) -> Result<Said, LineFault>
-    ensures { result ≡ meaning.read_line (map (λ n. n.now) names.now) (map (λ l. l.now) labels.now) rows calls is_over (words_of line.now) }
+    ensures { result ≡ meaning.read_line (map (λ n. n.now) names.now) (map (λ l. l.now) labels.now) rows calls (words_of line.now) }
 {
     let Some((first, rest)) = next_word(line) else {
         return Ok(Said::Nothing);
     };
-    if is_over {
-        return Err(LineFault::BadLine);
-    }
-    if is_question(first, rest) {
-        return Ok(Said::Question);
-    }
     let Some((second, more)) = next_word(rest) else {
         return Err(LineFault::BadLine);
     };
@@ -242,11 +235,11 @@ fn words_from<'t>(alloc: Global, line: &'t [u8]) -> Result<Words<'t>, TextFault>
     Ok(Words { names, opening })
 }
 
-/// What the word of a new name holds at first.
+/// What the word of a new name holds at first. There are six at most.
 fn first_value(names: &[&[u8]], name: &[u8], value: &[u8]) -> Result<u64, LineFault>
     ensures { result ≡ meaning.first_value (map (λ n. n.now) names.now) name.now value.now }
 {
-    if may_name(names, name) {
+    if may_name(names, name) && word_at(names.len()).is_some() {
         number_within(0, u64::MAX, value)
     } else {
         Err(LineFault::BadLine)
@@ -293,16 +286,18 @@ fn words_in<'t>(alloc: Global, line: &'t [u8]) -> Result<Words<'t>, TextFault>
     }
 }
 
-/// The calls and the rows of the lines behind the words, up to the question.
-fn read_lines(
+/// The calls and the rows of the lines behind the words, up to the line that begins with `stop`.
+fn read_lines<'t>(
     alloc: Global,
     names: &[&[u8]],
     labels: &[&[u8]],
-    text: &[u8],
-) -> Result<(Calls, Vec<Row>), TextFault>
+    stop: &[u8],
+    text: &'t [u8],
+) -> Result<Lines<'t>, TextFault>
     requires countable { length text.now + 3 < 2 ^ 64 }
-    ensures read { IfOk result (λ read. meaning.read_lines (map (λ n. n.now) names.now) (map (λ l. l.now) labels.now) 2 meaning.first_state (lines_of text.now) ≡ Ok (read.0, read.1.items)) }
-    ensures fault { IfErr result (λ e. IsFaultOf e (meaning.read_lines (map (λ n. n.now) names.now) (map (λ l. l.now) labels.now) 2 meaning.first_state (lines_of text.now))) }
+    ensures read { IfOk result (λ read. meaning.read_lines (map (λ n. n.now) names.now) (map (λ l. l.now) labels.now) stop.now 2 meaning.first_state (lines_of text.now) ≡ Ok (meaning.told_lines read)) }
+    ensures countable { IfOk result (λ read. read.behind.line + length read.behind.lines.now + 1 < 2 ^ 64) }
+    ensures fault { IfErr result (λ e. IsFaultOf e (meaning.read_lines (map (λ n. n.now) names.now) (map (λ l. l.now) labels.now) stop.now 2 meaning.first_state (lines_of text.now))) }
 {
     let mut calls = Calls {
         lock: None,
@@ -310,15 +305,20 @@ fn read_lines(
         unlock: None,
     };
     let mut rows = Vec::new(alloc);
-    let mut asked = false;
     let mut line: u64 = 2;
     let mut rest = text;
     while let Some((next, after)) = next_line(rest) {
-        match read_line(names, labels, rows.len(), calls, asked, next) {
+        if begins(stop, next) {
+            return Ok(Lines {
+                calls,
+                rows,
+                behind: Behind { line, lines: rest },
+            });
+        }
+        match read_line(names, labels, rows.len(), calls, next) {
             Ok(Said::Nothing) => {}
             Ok(Said::Row(row)) => push(&mut rows, row)?,
             Ok(Said::Calls(more)) => calls = more,
-            Ok(Said::Question) => asked = true,
             Err(fault) => {
                 return Err(TextFault::Line {
                     line: line + 1,
@@ -329,20 +329,21 @@ fn read_lines(
         line += 1;
         rest = after;
     }
-    if asked {
-        Ok((calls, rows))
-    } else {
-        Err(TextFault::Line {
-            line: line + 1,
-            fault: LineFault::BadLine,
-        })
-    }
+    Err(TextFault::Line {
+        line: line + 1,
+        fault: LineFault::BadLine,
+    })
 }
 
-/// Reads a lock of one's own, and the question of it.
-pub fn read<'t>(alloc: Global, text: &'t [u8]) -> Result<OwnLock<'t>, TextFault>
-    ensures read { IfOk result (λ lock. meaning.lock_of (lines_of text.now) ≡ Ok (meaning.told_lock lock)) }
-    ensures fault { IfErr result (λ e. IsFaultOf e (meaning.lock_of (lines_of text.now))) }
+/// Reads a lock of one's own, up to the line that begins with `stop`, and what stands from there on.
+pub fn read<'t>(
+    alloc: Global,
+    stop: &[u8],
+    text: &'t [u8],
+) -> Result<(OwnLock<'t>, Behind<'t>), TextFault>
+    ensures read { IfOk result (λ found. meaning.table_of stop.now (lines_of text.now) ≡ Ok (meaning.told_table found.0 found.1)) }
+    ensures countable { IfOk result (λ found. found.1.line + length found.1.lines.now + 1 < 2 ^ 64) }
+    ensures fault { IfErr result (λ e. IsFaultOf e (meaning.table_of stop.now (lines_of text.now))) }
 {
     let Some((first, after)) = next_line(text) else {
         return Err(TextFault::Line {
@@ -360,13 +361,18 @@ pub fn read<'t>(alloc: Global, text: &'t [u8]) -> Result<OwnLock<'t>, TextFault>
         });
     };
     let Words { names, opening } = words_in(alloc, second)?;
-    let labels = labels_of(alloc, rest)?;
-    let (calls, rows) = read_lines(alloc, &names, &labels, rest)?;
-    Ok(OwnLock {
+    let labels = labels_of(alloc, stop, rest)?;
+    let Lines {
+        calls,
+        rows,
+        behind,
+    } = read_lines(alloc, &names, &labels, stop, rest)?;
+    let lock = OwnLock {
         names,
         opening,
         calls,
         labels,
         rows,
-    })
+    };
+    Ok((lock, behind))
 }

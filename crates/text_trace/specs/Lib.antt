@@ -7,4 +7,3 @@ pub mod Table
 pub mod Trace
 pub mod Several
 pub mod Whole
-pub mod Run

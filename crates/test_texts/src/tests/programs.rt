@@ -51,7 +51,7 @@ pub struct Traces;
 
 impl Program for Traces {
     fn run<R: Read, W: Write>(alloc: Global, reader: &mut R, writer: &mut W) -> Ended {
-        match text_trace::run::run(alloc, reader, writer) {
+        match text_advice::trace::run(alloc, reader, writer) {
             Ok(()) => Ended::Whole,
             Err(failed) => Ended::of(failed.fault),
         }

@@ -4,7 +4,7 @@ use crate::tests::streams::{Fails, Takes};
 use std::alloc::{AllocError, Global};
 use std::io::{ErrorKind, Read, Write};
 use std::test::Fail;
-use text_trace::run::run;
+use text_advice::trace::run;
 
 /// Traces a text from a reader to a writer: nothing, or its fault's line and the exit status.
 fn told<R: Read, W: Write>(

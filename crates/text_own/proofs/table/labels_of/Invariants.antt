@@ -5,7 +5,7 @@ use Rattle.text_own.proofs.table.labels_of.Given as goal
 
 -- the lines so far were read
 abbrev pub invariant-loop-line : goal.invariant-loop-line
-invariant-loop-line l = labels_of (lines_of l.text) ≡ map (λ label. label.now) l.labels.items ++ labels_of (lines_of l.rest)
+invariant-loop-line l = labels_of l.stop (lines_of l.text) ≡ map (λ label. label.now) l.labels.items ++ labels_of l.stop (lines_of l.rest)
 
 abbrev pub decreases-loop-line : goal.decreases-loop-line
 decreases-loop-line l = length l.rest

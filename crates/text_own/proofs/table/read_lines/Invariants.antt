@@ -9,7 +9,7 @@ invariant-loop-next l =
     let names = map (λ name. name.now) l.names in
     let labels = map (λ label. label.now) l.labels in
     (l.line + length l.rest + 1 < 2 ^ 64) ×
-    (read_lines names labels 2 first_state (lines_of l.text) ≡ read_lines names labels l.line (record { calls = l.calls; rows = l.rows.items; asked = l.asked }) (lines_of l.rest))
+    (read_lines names labels l.stop 2 first_state (lines_of l.text) ≡ read_lines names labels l.stop l.line (record { calls = l.calls; rows = l.rows.items }) (lines_of l.rest))
 
 abbrev pub decreases-loop-next : goal.decreases-loop-next
 decreases-loop-next l = length l.rest

@@ -1,0 +1,5 @@
+pub mod Names
+pub mod Machine
+pub mod Walk
+pub mod Output
+pub mod Run
