@@ -46,7 +46,6 @@ TESTED = {
     "sync_steps play": "events_that_find_no_memory",
     "text_room open": "texts_of_several_that_find_no_memory",
     "text_room play_text": "texts_of_several_that_find_no_memory",
-    "text_room run": "texts_of_several_that_find_no_memory",
     # What the running types are made of: each `new` above is one of these.
     "running_passes Words::new": "larger_objects_that_find_no_memory",
     "running_model Stage::new": "locks_that_find_no_memory",

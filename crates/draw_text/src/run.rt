@@ -1,7 +1,8 @@
 //! Draws the text that a reader brings.
 ghost use Rattle.std.specs.Prelude.{◌≡◌, ◌≢◌, OnOk, IfErr};
 ghost use Rattle.text_advice.specs.Failed.{AdvisesOnText};
-ghost use Rattle.text_room.specs.Run.{TellsFault};
+ghost use Rattle.sync_play.specs.Run.{TellsFault};
+ghost use Rattle.text_room.specs.Output.{output_of};
 ghost use Rattle.draw_text.specs.Run.{HasDrawn, HasBegun};
 
 use crate::picture::draw_text;
@@ -16,7 +17,7 @@ use text_lines::fault::RunFault;
 pub fn run<R: Read, W: Write>(alloc: Global, reader: &mut R, writer: &mut W) -> Result<(), Failed>
     ensures ok { OnOk result (HasDrawn (R.remaining reader.old) (R.remaining reader.new)
         (W.contents writer.old) (W.contents writer.new)) }
-    ensures text { IfErr result (λ e. TellsFault e.fault (R.remaining reader.old) (R.remaining reader.new)) }
+    ensures text { IfErr result (λ e. TellsFault output_of e.fault (R.remaining reader.old) (R.remaining reader.new)) }
     ensures advised { IfErr result (λ e. AdvisesOnText e) }
 
     // After a text's fault, a failed read and want of memory the writer is as it was.

@@ -2,6 +2,7 @@
 ghost use Rattle.std.specs.Prelude.{◌≡◌, ◌≢◌, OnOk, IfOk, IfErr};
 ghost use Rattle.std.specs.Io.KnownBytes.{Appends};
 ghost use Rattle.sync_play.specs.Run.{HasRead, HasPlayed, HasBegun, TellsFault, EndsReading, Begins};
+ghost use Rattle.sync_play.specs.Text.{output_of};
 
 use crate::text::play_text;
 use std::alloc::Allocator;
@@ -49,13 +50,13 @@ pub fn run<R: Read, W: Write, A: Allocator + Copy>(
     reader: &mut R,
     writer: &mut W,
 ) -> Result<(), RunFault>
-    ensures ok { OnOk result (HasPlayed (R.remaining reader.old) (R.remaining reader.new)
+    ensures ok { OnOk result (HasPlayed output_of (R.remaining reader.old) (R.remaining reader.new)
         (W.contents writer.old) (W.contents writer.new)) }
-    ensures text { IfErr result (λ e. TellsFault e (R.remaining reader.old) (R.remaining reader.new)) }
+    ensures text { IfErr result (λ e. TellsFault output_of e (R.remaining reader.old) (R.remaining reader.new)) }
 
     // After a text's fault, a failed read and want of memory the writer is as it was.
     ensures unwritten { IfErr result (λ e. e ≢ RunFault.Write → writer.new ≡ writer.old) }
-    ensures begun { IfErr result (λ e. e ≡ RunFault.Write → HasBegun (R.remaining reader.old) (R.remaining reader.new)
+    ensures begun { IfErr result (λ e. e ≡ RunFault.Write → HasBegun output_of (R.remaining reader.old) (R.remaining reader.new)
         (W.contents writer.old) (W.contents writer.new)) }
 {
     let text = read_all(alloc, reader)?;

@@ -1,4 +1,3 @@
 pub mod Names
 pub mod Walk
 pub mod Output
-pub mod Run

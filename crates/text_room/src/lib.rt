@@ -6,9 +6,7 @@
 #![tactic(auto)]
 
 pub mod player;
-pub mod streams;
 pub mod text;
 pub mod walk;
 
-pub use streams::run;
 pub use text::play_text;

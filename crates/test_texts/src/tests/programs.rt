@@ -39,7 +39,7 @@ pub struct Plays;
 
 impl Program for Plays {
     fn run<R: Read, W: Write>(alloc: Global, reader: &mut R, writer: &mut W) -> Ended {
-        match text_room::run(alloc, reader, writer) {
+        match own_play::run(alloc, reader, writer) {
             Ok(()) => Ended::Whole,
             Err(fault) => Ended::of(fault),
         }

@@ -3,11 +3,10 @@ ghost use Rattle.std.specs.Prelude.{◌<◌, ◌+◌, ◌^◌, length};
 
 use linked_list_allocator::LocalHeap;
 use model_room::room::Room;
-use std::alloc::Global;
 use std::test::Fail;
-use text_lines::fault::{RunFault, TextFault};
+use text_lines::fault::TextFault;
+use text_room::play_text;
 use text_room::walk::{Group, Rest, next_stride, open};
-use text_room::{play_text, run};
 
 const TEXT: &[u8] =
     b"parties 2\nlet one mutex\n\nlet items semaphore 0\n2 items.start_wait\n1 one.lock\n2 run\n1 run\n";
@@ -76,28 +75,14 @@ fn has_room(heap: &LocalHeap) -> Result<bool, Fail> {
     }
 }
 
-/// Whether it has room for the text too. Where it has none, nothing is written.
-fn has_room_to_run(heap: &LocalHeap, alloc: Global) -> Result<bool, Fail> {
-    let mut reader = TEXT;
-    let mut written: Vec<u8> = Vec::new(alloc);
-    match run(heap, &mut reader, &mut written) {
-        Ok(()) if written.as_slice() == OUTPUT => Ok(true),
-        Err(RunFault::Memory) if written.is_empty() => Ok(false),
-        _ => Err("it wrote something else, or ended otherwise")?,
-    }
-}
-
 #[test]
 fn texts_of_several_that_find_no_memory(rt: HostRuntime) -> Result<(), Fail> {
     let mut found = false;
     for blocks in 0..1024usize {
         let heap = LocalHeap::new(rt.alloc(), 16 * blocks)?;
         let plays = has_room(&heap)?;
-        let runs = has_room_to_run(&heap, rt.alloc())?;
-        assert!(rt;
-            heap.used() == 0 && (plays || !runs) && (runs || !found) && (blocks > 0 || !plays)
-        );
-        found = runs;
+        assert!(rt; heap.used() == 0 && (plays || !found) && (blocks > 0 || !plays));
+        found = plays;
     }
     assert!(rt; found);
     Ok(())
