@@ -1,3 +1,3 @@
 pub mod MachineLaws
 pub mod WalkLaws
-pub mod TextLaws
+pub mod RunLaws

@@ -2,4 +2,4 @@ pub mod Names
 pub mod Machine
 pub mod Walk
 pub mod Output
-pub mod Run
+pub mod Law

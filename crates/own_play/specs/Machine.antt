@@ -1,6 +1,6 @@
 -- A lock of one's own and its parties at a moment, and what an input makes of them: the rows say it, by the definitions of any table of rows.
 use Rattle.std.specs.Prelude.{ℕ, ◌+◌, ◌-◌, ◌^◌, min, Bool, true, false, ◌&&◌, is_some, is_none, List, replicate, slice_get, slice_set, get_or, Option, Some, None, Result, Ok, Err, if◌then◌else◌}
-use Rattle.own_play.specs.Names.{event, carried_out, value_told, outcome_of, same_word, word_at, WaitAction, Act, Call, Event, Input, StepFault, Then, Word, HoldKind, After, Words, intent_in, way_in, after_in, answered_in, HoldChange, OwnPlace, Row, Way, Entry, Lock, Calls}
+use Rattle.own_play.specs.Names.{event, carried_out, value_told, outcome_of, same_word, word_at, WaitAction, Act, Call, Event, Input, StepFault, Then, Word, HoldKind, After, Words, intent_in, way_in, after_in, answered_in, HoldChange, OwnPlace, Row, Way, Entry, entries_of, Lock, Calls}
 use Rattle.own_play.specs.declared.machine.Doing.{Doing}
 use Rattle.own_play.specs.declared.machine.Party.{Party}
 use Rattle.own_play.specs.declared.machine.Machine.{Machine}
@@ -12,12 +12,6 @@ pub record State : Type 0 where
 
 abbrev pub state_of : Machine → State
 state_of m = record { parties = m.parties.items; words = m.words; failed = m.failed }
-
-abbrev pub entry_of : Calls → Call ℕ → Option Entry
-entry_of calls Call.Lock = calls.lock
-entry_of calls Call.TryLock = calls.try_lock
-entry_of calls Call.Unlock = calls.unlock
-entry_of calls call = None
 
 abbrev pub first_of : Entry → OwnPlace
 first_of entry = record { row = entry.row; kept = 0; patience = record { spins = 0; keep = true } }
@@ -34,7 +28,7 @@ begin_by number party call (Some entry) =
     else (if (entry.needs_hold && is_none party.hold) then Err StepFault.NoHold else Ok (begun number party call entry))
 
 abbrev pub begin_turn : Calls → ℕ → Party → Call ℕ → Result (Event ℕ × Party) StepFault
-begin_turn calls number party call = if is_some party.doing then Err StepFault.Busy else begin_by number party call (entry_of calls call)
+begin_turn calls number party call = if is_some party.doing then Err StepFault.Busy else begin_by number party call (entries_of calls call)
 
 abbrev pub doing_after : After ℕ OwnPlace → Option Doing
 doing_after (After.At place) = Some (record { place = place; waits = false })

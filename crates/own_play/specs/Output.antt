@@ -1,9 +1,10 @@
 -- What a text that begins with a table prints, or the fault of its first faulty line.
 use Rattle.std.specs.Prelude.{ℕ, ◌+◌, ◌++◌, List, [], ◌∷◌, get_or, map, Option, Some, None, Result, Ok, Err, codes, if◌then◌else◌}
 use Rattle.std.specs.Fmt.{decimal}
-use Rattle.own_play.specs.Names.{Word, Words, word_at, word_of_place, ◌>>=◌, at_line, lines_of, words_of, parties_of, FaultyLine, LineFault, Lock, table_of}
+use Rattle.own_play.specs.Names.{Word, Words, word_at, word_of_place, ◌>>=◌, at_line, lines_of, words_of, parties_of, FaultyLine, LineFault, Lock, told_lock, table_of}
 use Rattle.own_play.specs.Machine.{State, start}
-use Rattle.own_play.specs.Walk.{lines_from}
+use Rattle.own_play.specs.Walk.{Walk, lines_walk, played}
+use Rattle.own_play.specs.declared.text.Opened.{Opened}
 use Rattle.text_own.specs.Answer.{begins_own, unmark}
 use Rattle.text_room.specs.Output as room
 
@@ -47,11 +48,28 @@ abbrev pub opened : ℕ → List (List ℕ) → Result (ℕ × List (List ℕ)) 
 opened number [] = Err (record { line = number + 1; fault = LineFault.BadLine })
 opened number (first ∷ lines) = at_line (number + 1) (parties_of (words_of first)) >>= λ parties. Ok (parties, lines)
 
--- The table, then the line that opens it, which begins with its name, and then the lines that play it.
+-- what stands before the lines that play: the lock, how many parties it has, the number of the last of these lines, and the lines behind
+pub record Begun : Type 0 where
+  pub lock : Lock
+  pub parties : ℕ
+  pub line : ℕ
+  pub lines : List (List ℕ)
+
+abbrev pub told : Opened → Begun
+told found = record { lock = told_lock found.lock; parties = found.parties; line = found.rest.line; lines = lines_of found.rest.lines.now }
+
+-- the table, and then the line that opens it, which begins with its name
+abbrev pub begun_in : List (List ℕ) → Result Begun FaultyLine
+begun_in lines =
+    table_of (own_name lines) lines >>= λ table. opened table.line table.lines >>= λ found.
+    Ok (record { lock = table.lock; parties = found.0; line = table.line + 1; lines = found.1 })
+
+abbrev pub begun_walk : Begun → Walk
+begun_walk begun = lines_walk begun.lock (begun.line + 1) begun.lines (start begun.lock begun.parties)
+
 abbrev pub own_output : List (List ℕ) → Result (List ℕ) FaultyLine
 own_output lines =
-    table_of (own_name lines) lines >>= λ table. opened table.line table.lines >>= λ begun. lines_from table.lock (table.line + 1) begun.1 (record { state = start table.lock begun.0; bytes = [] }) >>= λ p.
-    Ok (last_onto table.lock p.state p.bytes)
+    begun_in lines >>= λ begun. played (begun_walk begun) (record { state = start begun.lock begun.parties; bytes = [] }) >>= λ p. Ok (last_onto begun.lock p.state p.bytes)
 
 -- any text: of a lock of one's own, of one object, or of several
 abbrev pub output_of : List ℕ → Result (List ℕ) FaultyLine

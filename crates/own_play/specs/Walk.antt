@@ -1,57 +1,106 @@
--- The lines behind a table: what each plays, and what is printed of it, after what was played before.
-use Rattle.std.specs.Prelude.{ℕ, zero, suc, ◌+◌, ◌++◌, Bool, List, [], ◌∷◌, Option, Some, None, Result, Ok, Err, if◌then◌else◌}
-use Rattle.own_play.specs.Names as names
-use Rattle.own_play.specs.Names.{Event, Input, StepFault, Object, event_lines, u64_numerals, command_of, line_fault_of, ◌>>=◌, at_line, words_of, Command, Task, FaultyLine, LineFault, Lock}
+-- The lines behind a table as a walk: its steps, each with the lock after it, up to their end or the first fault.
+use Rattle.std.specs.Prelude.{◌≡◌, ℕ, zero, suc, ◌+◌, ◌++◌, Bool, List, [], ◌∷◌, Option, Some, None, Result, Ok, Err, if◌then◌else◌}
+use Rattle.own_play.specs.Names.{goes_on, Event, Input, StepFault, Object, event_lines, u64_numerals, asked, line_fault_of, lines_of, words_of, Command, Task, Step, Rest, FaultyLine, LineFault, Lock}
 use Rattle.own_play.specs.Machine.{State, state_of, step}
 use Rattle.own_play.specs.declared.machine.Machine.{Machine}
 
-abbrev pub goes_on : names.Then ℕ → Bool
-goes_on outcome = names.goes_on outcome
+-- a step, and the lock after it
+pub record Seen : Type 0 where
+  pub step : Step ℕ
+  pub after : State
+
+-- the steps, in order, and the line with a fault that ends them early, if there is one
+pub record Walk : Type 0 where
+  pub steps : List Seen
+  pub fault : Option FaultyLine
+
+abbrev pub ended : Walk
+ended = record { steps = []; fault = None }
+
+abbrev pub stopped : ℕ → LineFault → Walk
+stopped line fault = record { steps = []; fault = Some (record { line = line; fault = fault }) }
+
+abbrev pub seen_then : ℕ → Event ℕ → State → Walk → Walk
+seen_then line e s walk = record { steps = record { step = record { line = line; event = e }; after = s } ∷ walk.steps; fault = walk.fault }
+
+-- the step that a line asks for, and then the others; or its fault
+abbrev pub step_then : ℕ → Result (Event ℕ × State) StepFault → (Event ℕ → State → Walk) → Walk
+step_then line (Ok it) others = seen_then line it.0 it.1 (others it.0 it.1)
+step_then line (Err fault) others = stopped line (line_fault_of fault)
+
+module _ (lock : Lock) (line party : ℕ) where
+  -- so many steps, and then the others
+  abbrev pub go_walk : ℕ → State → (State → Walk) → Walk
+  go_walk zero s others = others s
+  go_walk (suc steps) s others = step_then line (step lock s party Input.Go) (λ _ after. go_walk steps after others)
+
+  -- at least one step and at most so many, until the call has answered or stands at a closure
+  abbrev pub run_walk : ℕ → State → (State → Walk) → Walk
+  run_walk zero s others = stopped line LineFault.StepLimit
+  run_walk (suc steps) s others = step_then line (step lock s party Input.Go) (λ e after. if goes_on e.then then run_walk steps after others else others after)
+
+  abbrev pub task_walk : Task ℕ → State → (State → Walk) → Walk
+  task_walk (Task.Give input) s others = step_then line (step lock s party input) (λ _ after. others after)
+  task_walk (Task.Go steps) s others = go_walk steps s others
+  task_walk (Task.Run limit) s others = run_walk limit s others
+
+abbrev pub asked_walk : Lock → ℕ → Result (Command ℕ) LineFault → State → (State → Walk) → Walk
+asked_walk lock line (Ok command) s others = task_walk lock line command.party command.task s others
+asked_walk lock line (Err fault) s others = stopped line fault
+
+-- A line asks what a line of a text of a mutex asks. These are the lines from this number on.
+abbrev pub lines_walk : Lock → ℕ → List (List ℕ) → State → Walk
+lines_walk lock line [] s = ended
+lines_walk lock line (next ∷ lines) s = asked_walk lock line (asked u64_numerals Object.Mutex (words_of next)) s (λ after. lines_walk lock (line + 1) lines after)
+
+-- what is left of a line, and the lines after it
+abbrev pub rest_walk : Lock → Rest ℕ → State → Walk
+rest_walk lock rest s = task_walk lock rest.line rest.left.party rest.left.task s (λ after. lines_walk lock (rest.line + 1) (lines_of rest.lines.now) after)
+
+-- the input with which a task goes on
+abbrev pub input_of : Task ℕ → Input ℕ
+input_of (Task.Give input) = input
+input_of other = Input.Go
+
+-- What is told of a command that has a step left, and what it leaves: the next step, or the fault, whatever the line and what comes after it.
+abbrev pub IsStep : Lock → State → Command ℕ → State → Command ℕ → Result (Event ℕ) LineFault → Type 0
+IsStep lock s old s' new (Ok e) = (line : ℕ) (others : State → Walk) → task_walk lock line old.party old.task s others ≡ seen_then line e s' (task_walk lock line new.party new.task s' others)
+IsStep lock s old s' new (Err fault) = (line : ℕ) (others : State → Walk) → task_walk lock line old.party old.task s others ≡ stopped line fault
+
+-- the same of any command: of one that is done there is none
+abbrev pub IsTurn : Lock → State → Command ℕ → State → Command ℕ → Result (Option (Event ℕ)) LineFault → Type 0
+IsTurn lock s old s' new (Ok None) = ((line : ℕ) (others : State → Walk) → task_walk lock line old.party old.task s others ≡ others s) × (s' ≡ s)
+IsTurn lock s old s' new (Ok (Some e)) = IsStep lock s old s' new (Ok e)
+IsTurn lock s old s' new (Err fault) = IsStep lock s old s' new (Err fault)
+
+-- and of a text
+abbrev pub IsNextStep : Lock → State → Rest ℕ → State → Rest ℕ → Result (Option (Step ℕ)) FaultyLine → Type 0
+IsNextStep lock s old s' new (Ok None) = (rest_walk lock old s ≡ ended) × (s' ≡ s)
+IsNextStep lock s old s' new (Ok (Some step)) = rest_walk lock old s ≡ seen_then step.line step.event s' (rest_walk lock new s')
+IsNextStep lock s old s' new (Err fault) = rest_walk lock old s ≡ stopped fault.line fault.fault
+
+-- the lock after the steps
+abbrev pub last_of : State → List Seen → State
+last_of s [] = s
+last_of s (seen ∷ steps) = last_of seen.after steps
+
+-- what the events print, behind what was printed
+abbrev pub printed_onto : List Seen → List ℕ → List ℕ
+printed_onto [] bytes = bytes
+printed_onto (seen ∷ steps) bytes = printed_onto steps (bytes ++ event_lines u64_numerals seen.step.event)
 
 -- where the lock is, and what was printed
 pub record Played : Type 0 where
   pub state : State
   pub bytes : List ℕ
 
-abbrev pub played : Machine → List ℕ → Played
-played machine bytes = record { state = state_of machine; bytes = bytes }
+abbrev pub standing : Machine → List ℕ → Played
+standing machine bytes = record { state = state_of machine; bytes = bytes }
 
-abbrev pub told : ℕ → List ℕ → Result (Event ℕ × State) StepFault → Result (Bool × Played) FaultyLine
-told line bytes (Ok it) = Ok (goes_on it.0.then, record { state = it.1; bytes = bytes ++ event_lines u64_numerals it.0 })
-told line bytes (Err fault) = Err (record { line = line; fault = line_fault_of fault })
+abbrev pub unless : Option FaultyLine → Played → Result Played FaultyLine
+unless None p = Ok p
+unless (Some fault) p = Err fault
 
-module _ (lock : Lock) (line party : ℕ) where
-  -- an input is played, and its event printed
-  abbrev pub input_from : Input ℕ → Played → Result (Bool × Played) FaultyLine
-  input_from input p = told line p.bytes (step lock p.state party input)
-
-  -- so many steps
-  abbrev pub go_from : ℕ → Played → Result Played FaultyLine
-  go_from zero p = Ok p
-  go_from (suc steps) p = input_from Input.Go p >>= λ it. go_from steps it.1
-
-  -- at least one step and at most so many, until the call has answered or stands at a closure
-  abbrev pub run_from : ℕ → Played → Result Played FaultyLine
-  run_from zero p = Err (record { line = line; fault = LineFault.StepLimit })
-  run_from (suc steps) p = input_from Input.Go p >>= λ it. if it.0 then run_from steps it.1 else Ok it.1
-
-  abbrev pub task_from : Task ℕ → Played → Result Played FaultyLine
-  task_from (Task.Give input) p = input_from input p >>= λ it. Ok it.1
-  task_from (Task.Go steps) p = go_from steps p
-  task_from (Task.Run limit) p = run_from limit p
-
-abbrev pub command_from : Lock → ℕ → Command ℕ → Played → Result Played FaultyLine
-command_from lock line command p = task_from lock line command.party command.task p
-
-abbrev pub asked_from : Lock → ℕ → Option (Command ℕ) → Played → Result Played FaultyLine
-asked_from lock line None p = Ok p
-asked_from lock line (Some command) p = command_from lock line command p
-
--- A line asks what a line of a text of a mutex asks.
-abbrev pub line_from : Lock → ℕ → List (List ℕ) → Played → Result Played FaultyLine
-line_from lock line words p = at_line line (command_of u64_numerals Object.Mutex words) >>= λ asked. asked_from lock line asked p
-
--- the lines behind this one
-abbrev pub lines_from : Lock → ℕ → List (List ℕ) → Played → Result Played FaultyLine
-lines_from lock line [] p = Ok p
-lines_from lock line (next ∷ lines) p = line_from lock (line + 1) (words_of next) p >>= λ after. lines_from lock (line + 1) lines after
+-- what comes of a walk
+abbrev pub played : Walk → Played → Result Played FaultyLine
+played walk p = unless walk.fault (record { state = last_of p.state walk.steps; bytes = printed_onto walk.steps p.bytes })

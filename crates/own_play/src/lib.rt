@@ -4,6 +4,7 @@
 //! `text_room` does.
 #![tactic(auto)]
 
+pub mod law;
 pub mod machine;
 pub mod print;
 pub mod streams;

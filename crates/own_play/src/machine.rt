@@ -1,6 +1,7 @@
 //! A lock of one's own and its parties: what an input makes of them, by the rows.
 ghost use Rattle.std.specs.Prelude.{◌≡◌, IfOk};
 ghost use Rattle.own_play.specs.Machine as meaning;
+ghost use Rattle.text_own.specs.Judge.{entries_of};
 ghost use Rattle.text_own.specs.Table.{told_lock};
 
 use model_events::WaitAction;
@@ -39,7 +40,7 @@ pub struct Machine {
 type Turn = Result<(Event<u64>, Party), StepFault>;
 
 fn entry_of(calls: &Calls, call: &Call<u64>) -> Option<Entry>
-    ensures { result ≡ meaning.entry_of calls.now call.now }
+    ensures { result ≡ entries_of calls.now call.now }
 {
     match call {
         Call::Lock => calls.lock,

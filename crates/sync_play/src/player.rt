@@ -27,7 +27,7 @@ fn goes_on<T>(then: &Then<T>) -> bool
 
 /// What is left of a task after a stride of it.
 #[inline(always)]
-fn left_after<T: Copy>(task: Task<T>, stride: &Stride<T>) -> Task<T>
+pub fn left_after<T: Copy>(task: Task<T>, stride: &Stride<T>) -> Task<T>
     requires { stride.now.times ≤ steps_left task }
     ensures { result ≡ left_after task stride.now }
 {

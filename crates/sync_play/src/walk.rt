@@ -74,7 +74,7 @@ impl<'t, T: Copy> Clone for Rest<'t, T> {
 }
 
 /// What asks for no step.
-fn nothing<T>() -> Command<T>
+pub fn nothing<T>() -> Command<T>
     ensures { result ≡ meaning.nothing }
 {
     Command {
@@ -84,7 +84,7 @@ fn nothing<T>() -> Command<T>
 }
 
 /// What a line asks; one without words asks for no step.
-fn asked<T: TextInteger>(object: Object<T>, line: &[u8]) -> Result<Command<T>, LineFault>
+pub fn asked<T: TextInteger>(object: Object<T>, line: &[u8]) -> Result<Command<T>, LineFault>
     ensures asked { result ≡ meaning.asked T.numerals object (words_of line.now) }
     ensures within { IfOk result (λ command. steps_left command.task < 2 ^ 64) }
 {
