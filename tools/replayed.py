@@ -17,6 +17,13 @@ CLOSURES = ("aborts", "may", "sleeps", "serves")
 COURSES = (" loops for ever", " waits for itself")
 
 
+def spread(question):
+    """The question, where a line of several parties, as `1..3 lock`, stands once for each."""
+    lines = [(line, re.match(r"\s*(\d+)\.\.(\d+)( .*)", line)) for line in question.splitlines()]
+    each = ([f"{party}{of[3]}" for party in range(int(of[1]), int(of[2]) + 1)] if of else [line] for line, of in lines)
+    return "\n".join(line for some in each for line in some) + "\n"
+
+
 def lets_of(question):
     """The words behind each `let`."""
     return [line.split()[1:] for line in question.splitlines()[1:] if line.split()[:1] == ["let"]]
@@ -125,7 +132,7 @@ def told(question, entries, output):
             rows[-1] += f", {fate}"
         else:
             rows.append(f"{party} {fate}")
-    return " | ".join([*rows, *words_in(question, output)])
+    return " | ".join([*(rows or ["no calls"]), *words_in(question, output)])
 
 
 def is_told_client(question, entries, output, outcome):
@@ -136,7 +143,7 @@ def is_told_client(question, entries, output, outcome):
     if parts[-len(words) :] != words:
         return False
     del parts[-len(words) :]
-    for part in parts:
+    for part in filter("no calls".__ne__, parts):
         party, _, fates = part.partition(" ")
         for fate in fates.split(", "):
             if fate not in ("-", unanswered(question, entries, output, party)) and fate not in answers.get(party, []):
@@ -346,6 +353,7 @@ def main():
     if question.startswith("object "):
         # Of a lock of one's own nothing is played.
         return 0
+    question = spread(question)
     terms = condition_of(question) if answer else None
     wrong = wrong_outcomes(question, answer) if terms is None else wrong_terms(question, answer, terms)
     for words in wrong:

@@ -245,6 +245,9 @@ pub fn of_condition(out: &mut Vec<u8>, line: Spot<'_>) -> Added {
         if is(last, b"holds") && !has(b"and read write", word) && !word.is_empty() {
             return put(out, b"a hold is `read` or `write`", at, b"write");
         }
+        if !first && !is_no_number(last) && !is_no_number(word) {
+            return swap(out, b"one number stands here", at, b"");
+        }
         let missing = between(at, last);
         if !missing.is_empty() {
             return insert(out, b"a word is missing", at, missing);

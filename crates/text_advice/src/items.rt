@@ -296,6 +296,12 @@ fn no_verb(out: &mut Vec<u8>, at: Spot<'_>) -> Told {
     Ok(is_one)
 }
 
+/// Whether a word means that nothing is to be done.
+fn idles(at: Spot<'_>) -> bool {
+    has(b"skip nop noop pass yield pause", at.word)
+        || is(at.word, b"wait") && nearest_call(at.object, at.word).is_empty()
+}
+
 /// Of a word for which a question has another, where an item is to begin. Whether it is one.
 fn of_stranger(out: &mut Vec<u8>, at: Spot<'_>) -> Told {
     let (second, rest) = cut_word(at.behind);
@@ -309,12 +315,16 @@ fn of_stranger(out: &mut Vec<u8>, at: Spot<'_>) -> Told {
         out.extend_from_slice(COUNTED)?;
     } else if has(b"loop repeat forever do", at.word) {
         no_loop(out, at)?;
-    } else if has(b"skip nop noop pass yield pause", at.word) {
+    } else if idles(at) {
         put(out, NOTHING, at, b"set idle 0")?;
     } else if has(b"spin spins busy", at.word) || is(second, b"sleeps") {
         out.extend_from_slice(AWAKE)?;
     } else if has(b"can might", at.word) {
         mean(out, at, b"may")?;
+    } else if has(b"goto jump continue", at.word) {
+        out.extend_from_slice(
+            b"no item jumps: what is done again stands in a loop, as `while x = 0 ( .. )`",
+        )?;
     } else if has(b"return exit end stop break halt", at.word) {
         out.extend_from_slice(b"a party ends behind its last item, and a test skips others")?;
     } else if is(at.word, b"let") {

@@ -9,7 +9,8 @@ use crate::sentence::{OF_QUESTION, is_of_question, list_calls, of_any_party, of_
 use crate::variables::{add_names, named};
 use crate::words::{
     Added, Spot, before, before_word, cut, cut_word, first_spot, first_word, front_of, has,
-    has_comment, has_mark, is_no_number, mean, none_here, of_comment, say, second_spot, show,
+    has_comment, has_mark, is_no_number, mean, names_parties, none_here, of_comment, say,
+    second_spot, show,
 };
 use model_events::event::Object;
 use text_lines::command::is_known;
@@ -176,7 +177,7 @@ pub fn advise_asked(out: &mut Vec<u8>, question: &[u8], line: &[u8], found: Faul
         )?;
         add_names(out, question, b"")
     } else if found.fault == LineFault::BadLine
-        && !is_no_number(first.word)
+        && names_parties(first.word)
         && !tells_of_closures(first.behind)
     {
         out.extend_from_slice(

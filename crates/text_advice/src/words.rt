@@ -240,3 +240,21 @@ pub fn is_odd_number(word: &[u8]) -> bool {
     let first = before(word, word.len().saturating_sub(1));
     is_no_number(word) && has_mark(first, b"0123456789+-")
 }
+
+/// The first and the last of several parties, as `1..3` names them.
+pub fn ends_of(word: &[u8]) -> Option<(u64, u64)> {
+    let (first, rest) = run_of(word, b".", false);
+    let last = rest.strip_prefix(b"..")?;
+    match (
+        number_within(0, u64::MAX, first),
+        number_within(0, u64::MAX, last),
+    ) {
+        (Ok(first), Ok(last)) => Some((first, last)),
+        _ => None,
+    }
+}
+
+/// Whether a word names a party, or several.
+pub fn names_parties(word: &[u8]) -> bool {
+    !is_no_number(word) || ends_of(word).is_some()
+}
