@@ -18,9 +18,9 @@ use model_events::SPIN_REPETITIONS;
 use model_events::atomic::internal::AtomicInteger;
 use model_events::event::Call;
 use model_rw_reader::reader_enters;
+use running_model::pause_before;
 use running_model::turn::Called;
 use std::alloc::Allocator;
-use std::hint::spin_loop;
 use std::sync::Wait;
 use std::thread;
 
@@ -29,7 +29,7 @@ use std::thread;
 #[inline(always)]
 fn pause(tries: u64) -> u64 {
     if tries < SPIN_REPETITIONS {
-        spin_loop();
+        pause_before(tries);
         tries + 1
     } else {
         thread::yield_now();

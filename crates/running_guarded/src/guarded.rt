@@ -27,16 +27,15 @@ use crate::word::GuardedWord;
 use atomic_table::{Seat, Table};
 use model_events::{SPIN_REPETITIONS, WaitAction};
 use model_mutex::MutexPlace;
-use running_model::Sealed;
 use running_model::calls::{LockCall, TryLockCall, UnlockCall};
 use running_model::seat::{SeatAnswered, SeatTurn, begin_new};
 use running_model::turn::{Called, Goes, Way};
+use running_model::{Sealed, pause_before};
 use running_mutex::{MutexScript, PlayedMutex};
 use running_passes::{View, WaitResult};
 use running_spin_lock::ValueRule;
 use running_spin_lock::slot::{self, FREE, LOCKED};
 use std::alloc::{AllocError, Allocator, Global};
-use std::hint::spin_loop;
 use std::sync::Wait;
 use std::thread;
 
@@ -110,8 +109,8 @@ impl<T, A: Allocator> Guarded<T, A> {
         ensures over { OnceRefused mutex_model calls.Lock places.Lock 1 turn.seat.me.0.tally.parties (λ done. MatchBool result.0 (IsGranted mutex_model calls.Lock places.Lock (Some kinds.Write) done result.1.seat.me.0.tally.parties) (IsStanding mutex_model calls.Lock places.Lock 1 done result.1.seat.me.0.tally.parties)) }
     {
         let mut next = turn;
-        for _ in 0..SPIN_REPETITIONS {
-            spin_loop();
+        for tries in 0..SPIN_REPETITIONS {
+            pause_before(tries);
             let (free, again) = self.exchange(next);
             if free {
                 return (true, again);

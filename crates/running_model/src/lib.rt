@@ -8,6 +8,7 @@ pub mod calls;
 mod carries;
 mod choosing;
 mod counts;
+mod pauses;
 mod played;
 mod script;
 pub mod seat;
@@ -18,6 +19,7 @@ mod wait;
 
 pub use carries::{Carries, CarryRule};
 pub use counts::{Counts, CountsByActs};
+pub use pauses::{pause_before, pauses_before};
 pub use played::{Parties, Played};
 pub use script::Script;
 pub use stage::Stage;

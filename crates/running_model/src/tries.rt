@@ -18,13 +18,13 @@ ghost use Rattle.running_model.specs.Asked.{AskedOnce, Asked, AskedAfter};
 ghost use Rattle.running_model.specs.Tries.{spun, MayTry, Tried, IsRefused, IsStanding, IsGranted, HasGivenUp, OnceRefused, OnceStanding, StandsToWait};
 
 use crate::calling::answer;
+use crate::pauses::pause_before;
 use crate::played::Played;
 use crate::script::Script;
 use crate::turn::{Aborted, Answered, Continued, Goes, Turn, Way};
 use crate::wait::{Sealed, Shown};
 use model_events::{SPIN_REPETITIONS, WaitAction};
 use running_passes::Pass;
-use std::hint::spin_loop;
 use std::marker::PhantomData;
 use std::sync::Wait;
 
@@ -98,8 +98,8 @@ fn spin<'p, K, M: Script<K, P, V>, P, V, C, B: Attempt<K, M, P, V, C>, R: Wait>(
 {
     let mut last = seen;
     let mut next = turn;
-    for _ in 0..SPIN_REPETITIONS {
-        spin_loop();
+    for tries in 0..SPIN_REPETITIONS {
+        pause_before(tries);
         match by.attempt::<Goes, R>(next, rt) {
             Ok(granted) => return Ok(granted),
             Err((found, again)) => {

@@ -7,9 +7,8 @@ use model_events::{SPIN_REPETITIONS, WaitAction};
 use model_rw_writer::{is_blocked, marks, unmarks, writer_enters};
 use running_model::calls::{TryWriteCall, UnlockCall, WriteCall};
 use running_model::turn::{Aborted, Answered, Goes, Turn, Way, begin_held, begin_new};
-use running_model::{Sealed, Shown};
+use running_model::{Sealed, Shown, pause_before};
 use std::alloc::Allocator;
-use std::hint::spin_loop;
 use std::sync::Wait;
 
 impl<A: Allocator, S> RwLockWriterPreference<A, S> {
@@ -281,8 +280,8 @@ impl<A: Allocator, S> RwLockWriterPreference<A, S> {
         ensures played { OnceWriting (spins (spun 0)) (parties_of turn.entry.pass.now) (λ done. MatchBool result.0 (WriteIsGranted done (parties_of result.1.pass.now)) (WriteGoes (afters.At (places.LoadCounter (spun 10000))) done (parties_of result.1.pass.now))) }
     {
         let mut next = turn;
-        for _ in 0..SPIN_REPETITIONS {
-            spin_loop();
+        for tries in 0..SPIN_REPETITIONS {
+            pause_before(tries);
             let (entered, last) = self.enter_or_mark(next, rt);
             if entered {
                 return (true, last);

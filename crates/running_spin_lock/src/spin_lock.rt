@@ -24,11 +24,11 @@ use crate::slot::{self, FREE, LOCKED};
 use atomic_table::{Seat, Table};
 use model_spin::SpinPlace;
 use running_model::calls::{BlockingLockCall, LockCall, TryLockCall, UnlockCall};
+use running_model::pause_before;
 use running_model::seat::{SeatTurn, begin_new};
 use running_model::turn::{Called, Goes, Way};
 use running_passes::View;
 use std::alloc::{AllocError, Allocator, Global};
-use std::hint::spin_loop;
 use std::sync::Wait;
 
 /// A lock with one holder at most, which guards a value. It may be shared by threads where the value may go from one to another.
@@ -247,8 +247,10 @@ impl<T, A: Allocator> SpinLock<T, A> {
         ensures over { (done : List (Slot ℕ)) → IsSpinning C.call done turn.seat.me.0.tally.parties → IsGranted C.call done result.seat.me.0.tally.parties }
     {
         let mut next = turn;
+        let mut tries: u64 = 0;
         for _ in rt.forever() {
-            spin_loop();
+            pause_before(tries);
+            tries = tries.saturating_add(1);
             let (free, again) = self.swap(next);
             if free {
                 return again;
