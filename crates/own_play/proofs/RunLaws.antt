@@ -11,9 +11,9 @@ use Rattle.model_events.proofs.Exports.{call_of_same, call_of_other, some_same, 
 use Rattle.model_events.proofs.Holds.{hold_among-without_other, hold_among-without_same}
 use Rattle.model_own.specs.Rows.{first_place, way_of, led_by, led_to}
 use Rattle.model_own.specs.Holds.{changed, change_at, change_by, change_of, BeginsBy, BegunBy, own_holds}
-use Rattle.own_play.specs.Names.{event, intent_in, way_in, after_in, answered_in, entries_of, goes_on, word_at, Act, Call, Event, Input, StepFault, Then, Word, WaitAction, HoldKind, HoldChange, After, Words, OwnPlace, Row, Way, Entry, Object, Command, Task, LineFault, Lock, asked, words_of, u64_numerals}
+use Rattle.own_play.specs.Names.{event, intent_in, way_in, after_in, answered_in, entries_of, goes_on, word_at, Act, Call, Event, Input, StepFault, Then, Word, WaitAction, HoldKind, HoldChange, After, Words, OwnPlace, Row, Way, Entry, Command, Task, LineFault, Lock, words_of}
 use Rattle.own_play.specs.Machine.{State, first_of, begin_by, begin_turn, doing_after, hold_by, hold_after, stepped, go_by, answer_by, turn, after_act, words_after, failed_after, after_turn, step_of, step, start}
-use Rattle.own_play.specs.Walk.{Walk, Seen, step_then, go_walk, run_walk, task_walk, asked_walk, lines_walk}
+use Rattle.own_play.specs.Walk.{Walk, Seen, step_then, go_walk, run_walk, task_walk, asked_walk, asked_of, lines_walk}
 use Rattle.own_play.specs.Law.{table_in, LeadsTo, AreRun, WalksAreRuns}
 use Rattle.own_play.specs.declared.machine.Doing.{Doing}
 use Rattle.own_play.specs.declared.machine.Party.{Party}
@@ -327,7 +327,7 @@ module _ (lock : Lock) where
 
     lines_run : (line : ℕ) (lines : List (List ℕ)) → Runs (lines_walk lock line lines)
     lines_run line [] past s before = tt
-    lines_run line (first ∷ lines) past s before = asked_runs line (asked u64_numerals Object.Mutex (words_of first)) _ (lines_run (line + 1) lines) past s before
+    lines_run line (first ∷ lines) past s before = asked_runs line (asked_of lock (words_of first)) _ (lines_run (line + 1) lines) past s before
 
   started : (parties : ℕ) → Stands parties [] (start lock parties)
   started parties =

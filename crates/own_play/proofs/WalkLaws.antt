@@ -2,10 +2,10 @@
 use Rattle.std.proofs.Common.{◌≡◌, ℕ, zero, suc, ◌+◌, ◌-◌, ◌*◌, ◌^◌, ◌<◌, ◌≤◌, Bool, true, false, List, [], ◌∷◌, Option, Some, None, IfSome, Result, Ok, Err, refl, ap, sym, subst, ◌∙◌, arith, if◌then◌else◌}
 use Rattle.std.proofs.lemmas.Bool.{eqb-true, eqb-false}
 use Rattle.std.proofs.lemmas.Bool.Decides.{nat_tests}
-use Rattle.own_play.specs.Names.{left_after, goes_on, line_fault_of, asked, u64_numerals, lines_of, words_of, Event, Object, StepFault, Command, Task, LineFault, Lock}
+use Rattle.own_play.specs.Names.{left_after, goes_on, line_fault_of, lines_of, words_of, Event, StepFault, Command, Task, LineFault, Lock}
 use Rattle.sync_play.specs.Player.{steps_left}
 use Rattle.own_play.specs.Machine.{State, state_of, with_state, step}
-use Rattle.own_play.specs.Walk.{Walk, ended, seen_then, stopped, input_of, run_walk, task_walk, lines_walk, IsTurn}
+use Rattle.own_play.specs.Walk.{Walk, ended, seen_then, stopped, input_of, run_walk, task_walk, asked_of, lines_walk, IsTurn}
 use Rattle.own_play.specs.declared.machine.Machine.{Machine}
 
 module _ (lock : Lock) (s : State) (party : ℕ) (m : Machine) (line : ℕ) (others : State → Walk) where
@@ -41,11 +41,11 @@ module _ (lock : Lock) (s : State) (party : ℕ) (m : Machine) (line : ℕ) (oth
 
 -- The next line.
 module _ (lock : Lock) (number : ℕ) (lines : List (List ℕ)) (first rest : List ℕ) (s : State) (are : lines ≡ first ∷ lines_of rest) where
-  pub line_asks : (command : Command ℕ) → Ok command ≡ asked u64_numerals Object.Mutex (words_of first) →
+  pub line_asks : (command : Command ℕ) → Ok command ≡ asked_of lock (words_of first) →
       lines_walk lock number lines s ≡ task_walk lock number command.party command.task s (λ after. lines_walk lock (number + 1) (lines_of rest) after)
   line_asks command is = rw (are, ← is) refl
 
-  pub line_fails : (fault : LineFault) → Err fault ≡ asked u64_numerals Object.Mutex (words_of first) → lines_walk lock number lines s ≡ stopped number fault
+  pub line_fails : (fault : LineFault) → Err fault ≡ asked_of lock (words_of first) → lines_walk lock number lines s ≡ stopped number fault
   line_fails fault is = rw (are, ← is) refl
 
 pub lines_end : (lock : Lock) (number : ℕ) (lines : List (List ℕ)) (s : State) → lines ≡ [] → lines_walk lock number lines s ≡ ended

@@ -1,6 +1,6 @@
 -- The lines behind a table as a walk: its steps, each with the lock after it, up to their end or the first fault.
-use Rattle.std.specs.Prelude.{◌≡◌, ℕ, zero, suc, ◌+◌, ◌++◌, Bool, List, [], ◌∷◌, Option, Some, None, Result, Ok, Err, if◌then◌else◌}
-use Rattle.own_play.specs.Names.{goes_on, Event, Input, StepFault, Object, event_lines, u64_numerals, asked, line_fault_of, lines_of, words_of, Command, Task, Step, Rest, FaultyLine, LineFault, Lock}
+use Rattle.std.specs.Prelude.{◌≡◌, ℕ, zero, suc, ◌+◌, ◌++◌, Bool, false, is_none, List, [], ◌∷◌, Option, Some, None, Result, Ok, Err, if◌then◌else◌}
+use Rattle.own_play.specs.Names.{◌>>=◌, entries_of, goes_on, Event, Input, StepFault, Object, event_lines, u64_numerals, asked, line_fault_of, lines_of, words_of, Command, Task, Step, Rest, FaultyLine, LineFault, Lock}
 use Rattle.own_play.specs.Machine.{State, state_of, step}
 use Rattle.own_play.specs.declared.machine.Machine.{Machine}
 
@@ -48,10 +48,18 @@ abbrev pub asked_walk : Lock → ℕ → Result (Command ℕ) LineFault → Stat
 asked_walk lock line (Ok command) s others = task_walk lock line command.party command.task s others
 asked_walk lock line (Err fault) s others = stopped line fault
 
--- A line asks what a line of a text of a mutex asks. These are the lines from this number on.
+abbrev pub lacks : Lock → Task ℕ → Bool
+lacks lock (Task.Give (Input.Begin call)) = is_none (entries_of lock.calls call)
+lacks lock task = false
+
+-- A line asks what a line of a text of a mutex asks; a call that the lock has not is an unknown word.
+abbrev pub asked_of : Lock → List (List ℕ) → Result (Command ℕ) LineFault
+asked_of lock words = asked u64_numerals Object.Mutex words >>= λ command. if lacks lock command.task then Err LineFault.BadLine else Ok command
+
+-- the lines from this number on
 abbrev pub lines_walk : Lock → ℕ → List (List ℕ) → State → Walk
 lines_walk lock line [] s = ended
-lines_walk lock line (next ∷ lines) s = asked_walk lock line (asked u64_numerals Object.Mutex (words_of next)) s (λ after. lines_walk lock (line + 1) lines after)
+lines_walk lock line (next ∷ lines) s = asked_walk lock line (asked_of lock (words_of next)) s (λ after. lines_walk lock (line + 1) lines after)
 
 -- what is left of a line, and the lines after it
 abbrev pub rest_walk : Lock → Rest ℕ → State → Walk

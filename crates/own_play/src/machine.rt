@@ -39,7 +39,8 @@ pub struct Machine {
 /// What a party did, and the party after that.
 type Turn = Result<(Event<u64>, Party), StepFault>;
 
-fn entry_of(calls: &Calls, call: &Call<u64>) -> Option<Entry>
+/// Where a call begins, if the lock has it.
+pub(crate) fn entry_of(calls: &Calls, call: &Call<u64>) -> Option<Entry>
     ensures { result ≡ entries_of calls.now call.now }
 {
     match call {

@@ -4,9 +4,10 @@ ghost use Rattle.own_play.specs.Machine.{state_of};
 ghost use Rattle.own_play.specs.Walk as meaning;
 ghost use Rattle.sync_play.specs.Player.{steps_left};
 ghost use Rattle.sync_play.specs.Walk.{most_steps};
+ghost use Rattle.text_lines.specs.Lexer.{words_of};
 ghost use Rattle.text_own.specs.Table.{told_lock};
 
-use crate::machine::{Machine, step};
+use crate::machine::{Machine, entry_of, step};
 use model_events::event::{Event, Input, Object};
 use sync_play::player::left_after;
 use sync_play::walk::{Rest, Step, asked};
@@ -58,8 +59,30 @@ fn next_event(
     }
 }
 
-/// Plays the next step of a text, and `rest` is then what is left of it. `None` once all lines are played. A line names calls as those of a
-/// mutex are named; one that the lock has not is an unknown word.
+/// Whether a task begins a call that the lock has not.
+fn lacks(lock: &OwnLock<'_>, task: &Task<u64>) -> bool
+    ensures { result ≡ meaning.lacks (told_lock lock.now) task.now }
+{
+    match task {
+        Task::Give(Input::Begin(call)) => entry_of(&lock.calls, call).is_none(),
+        Task::Give(_) | Task::Go(_) | Task::Run(_) => false,
+    }
+}
+
+/// What a line asks. It names calls as those of a mutex are named; one that the lock has not is an unknown word.
+fn asked_of(lock: &OwnLock<'_>, line: &[u8]) -> Result<Command<u64>, LineFault>
+    ensures asked { result ≡ meaning.asked_of (told_lock lock.now) (words_of line.now) }
+    ensures within { IfOk result (λ command. steps_left command.task < 2 ^ 64) }
+{
+    let command = asked(Object::<u64>::Mutex, line)?;
+    if lacks(lock, &command.task) {
+        Err(LineFault::BadLine)
+    } else {
+        Ok(command)
+    }
+}
+
+/// Plays the next step of a text, and `rest` is then what is left of it. `None` once all lines are played.
 ///
 /// After a fault nothing more is to be asked.
 pub fn next_step(
@@ -93,7 +116,7 @@ pub fn next_step(
         };
         rest.line += 1;
         rest.lines = lines;
-        match asked(Object::<u64>::Mutex, line) {
+        match asked_of(lock, line) {
             Ok(command) => rest.left = command,
             Err(fault) => {
                 return Err(FaultyLine {

@@ -35,14 +35,14 @@ loop-event-preserved c =
       on.0 ∙ line_asks (told_lock c.args.lock.now) (c.loop-event.rest.line + 1) (lines_of c.loop-event.rest.lines.now) c.in-Some.line.now c.in-Some.lines.now _ c.in-Some.ensures.lines c.in-Ok.command c.in-Ok.ensures.asked,
     )
 
-pub returns-in-Err-asked-clause-step : goal.returns-in-Err-asked-clause-step
-returns-in-Err-asked-clause-step c =
+pub returns-in-Err-asked_of-clause-step : goal.returns-in-Err-asked_of-clause-step
+returns-in-Err-asked_of-clause-step c =
     let i = c.loop-event.invariant in
     let on = passes (told_lock c.args.lock.now) (state_of c.loop-event.machine) _ (state_of c.next_event.new.machine) c.loop-event.rest.left c.next_event.new.left c.loop-event.rest.line _ _ i.2 i.3 _ c.in-Ok-None.field-0-is c.in-Ok-None.ensures.turn in
-    on.0 ∙ line_fails (told_lock c.args.lock.now) (c.loop-event.rest.line + 1) (lines_of c.loop-event.rest.lines.now) c.in-Some.line.now c.in-Some.lines.now _ c.in-Some.ensures.lines c.in-Err-asked.fault c.in-Err-asked.ensures.asked
+    on.0 ∙ line_fails (told_lock c.args.lock.now) (c.loop-event.rest.line + 1) (lines_of c.loop-event.rest.lines.now) c.in-Some.line.now c.in-Some.lines.now _ c.in-Some.ensures.lines c.in-Err-asked_of.fault c.in-Err-asked_of.ensures.asked
 
-pub returns-in-Err-asked-clause-countable : goal.returns-in-Err-asked-clause-countable
-returns-in-Err-asked-clause-countable c = omega (arith, c.loop-event.invariant.0, c.in-Some.ensures.shorter)
+pub returns-in-Err-asked_of-clause-countable : goal.returns-in-Err-asked_of-clause-countable
+returns-in-Err-asked_of-clause-countable c = omega (arith, c.loop-event.invariant.0, c.in-Some.ensures.shorter)
 
 pub returns-in-Ok-Some-clause-fewer : goal.returns-in-Ok-Some-clause-fewer
 returns-in-Ok-Some-clause-fewer c = fewer_steps c.next_event.new.left c.loop-event.rest.left _ c.in-Ok-Some.event _ _ c.in-Ok-Some.field-0-is c.loop-event.invariant.1 c.in-Ok-Some.ensures.shorter
