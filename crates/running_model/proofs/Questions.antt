@@ -80,12 +80,11 @@ module _ {F X : Type 0} (g : Mut F (Bor X × (Bor ℕ × Unit {0})) WaitAction) 
       again = first_goes_on a.asked r.0 f after a.asks r.2 a.led good;
     }
 
--- A question whose closure is a reference to the caller's, or calls it, is one that the caller's may answer so.
-pub answered_of : {F G X : Type 0} (g : Mut F (Bor X × (Bor ℕ × Unit {0})) WaitAction) (shown : X) (h : Shared G (Bor X × (Bor ℕ × Unit {0})) WaitAction) (wait : G) (f after : F) (told : ℕ) (action says : WaitAction)
-    → ((a : Bor X × (Bor ℕ × Unit {0})) (r : WaitAction) → Called g f a r after → h.post wait a r) → action ≡ says → AskedOnce g shown f told action after → MayAnswer h wait (λ n. n ≡ told) says
-answered_of g shown h wait f after told action says gives is s = record { word = s.word; seen = s.seen; named = s.tells; says = record { met = subst (λ r. h.post wait (s.word, (s.seen, tt)) r) is (gives _ _ s.called) } }
+-- what was answered so
+pub answers_so : {F X R : Type 0} (g : Mut F (Bor X × (Bor ℕ × Unit {0})) R) (shown : X) (f after : F) (told : ℕ) (a b : R) → a ≡ b → AskedOnce g shown f told a after → AskedOnce g shown f told b after
+answers_so g shown f after told a b e h = subst (λ x. AskedOnce g shown f told x after) e h
 
--- So a wake.
+-- A wake whose closure is a reference to the caller's, or calls it, is one that the caller's promises.
 pub says_of : {F G X : Type 0} (g : Mut F (Bor X × Unit {0}) (Unit {0})) (h : Shared G (Bor X × Unit {0}) (Unit {0})) (wake : G) (f after : F) (word : X)
     → ((a : Bor X × Unit {0}) → Called g f a tt after → h.post wake a tt) → CalledAt g f word tt after → FnReturnsAt h wake word tt
 says_of g h wake f after word gives s = record { shown = s.shown; shows = s.shows; says = record { met = gives _ s.called } }
