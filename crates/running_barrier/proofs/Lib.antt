@@ -1,3 +1,4 @@
 pub mod Names
 pub mod BarrierKeeps
 pub mod BarrierPlays
+pub mod BarrierAsks
