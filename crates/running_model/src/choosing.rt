@@ -73,36 +73,33 @@ pub enum Choice<'p, T, V> {
 }
 
 impl<'p, M, P, V, C> Turn<'p, Pass<Played<M, P, V, C>>, Goes> {
-    /// Calls the choice closure at which the call stands, once, with the value that the model tells it there. Gives the closure back.
+    /// Calls the choice closure at which the call stands, with the value that the model tells it there.
     #[inline(always)]
     pub fn choose<K, A: Allocator, F: FnMut(V) -> Option<V>>(
         self,
         at: &Stage<K, M, P, V, C, A>,
         told: V,
         f: F,
-    ) -> (Choice<'p, Pass<Played<M, P, V, C>>, V>, F)
+    ) -> Choice<'p, Pass<Played<M, P, V, C>>, V>
     where
         M: Script<K, P, V>,
         C: Counts<K, V>,
         requires own { IsPassOf at.now self.pass.now }
         requires stands { StandsToChoose (M.model (key_of at.now)) told (parties_of self.pass.now) }
         requires may { F.pre f told }
-        ensures same_borrow { (pass_choosing result.0).ghost_name ≡ self.entry.pass.ghost_name }
-        ensures still { (pass_choosing result.0).now ≡ self.entry.pass.now }
-        ensures chose { F.step f told (choice_in result.0) result.1 }
+        ensures same_borrow { (pass_choosing result).ghost_name ≡ self.entry.pass.ghost_name }
+        ensures still { (pass_choosing result).now ≡ self.entry.pass.now }
+        ensures chose { F.post f told (choice_in result) }
     {
         let _at = at;
         let Turn { pass, by: _ } = self;
-        let mut chosen = f;
-        match chosen(told) {
-            Some(value) => (Choice::Value(TurnWith { pass, value }), chosen),
-            None => (
-                Choice::Nothing(Turn {
-                    pass,
-                    by: PhantomData,
-                }),
-                chosen,
-            ),
+        let mut f = f;
+        match f(told) {
+            Some(value) => Choice::Value(TurnWith { pass, value }),
+            None => Choice::Nothing(Turn {
+                pass,
+                by: PhantomData,
+            }),
         }
     }
 }
