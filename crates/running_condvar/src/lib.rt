@@ -528,7 +528,7 @@ impl<A: Allocator, S> ConditionVariable<A, S> {
                 ensures { HasSlept W.Fn wait.entry.now (initial_of self.entry.now.semaphore) result permits.old permits.new }
             { self.take(rt, permits, word, wait) },
         );
-        (signalled, self.count_out(slept))
+        (*signalled.given(), self.count_out(slept))
     }
 
     /// Counts a wait out, once what it does while it is counted has ended.

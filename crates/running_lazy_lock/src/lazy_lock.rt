@@ -139,7 +139,7 @@ impl<T: Drop, F: FnOnce() -> T + Drop, G: Gives<T, F>, A: Allocator> LazyLock<T,
         ensures of { result.of ≡ self.now.value.id }
         ensures made { IsGiven G.may F.post result.value }
     {
-        let value = self.take(rt, pass).call();
+        let value = self.take(rt, pass).call(pass);
         match self.value.set_written(value) {
             Ok(written) => written,
             Err(_) => never(rt),

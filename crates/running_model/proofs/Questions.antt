@@ -53,17 +53,17 @@ module _ {F X : Type 0} (g : Mut F (Bor X × (Bor ℕ × Unit {0})) WaitAction) 
     answer_of : (f : F) (v : ℕ) (action says : WaitAction) (after : F) → Good f → refuses v → action ≡ says → AskedOnce g shown f v action after → MayAnswer h wait refuses says
     answer_of f v action says after good bars is s = record { word = s.word; seen = s.seen; named = subst refuses (sym s.tells) bars; says = subst (λ a. FnReturns h wait (s.word, (s.seen, tt)) a) is (leads _ _ _ _ good s.called).1 }
 
-    ends_abort : (xs : List (ℕ × WaitAction)) (v : ℕ) (f q : F) → Asks g shown refuses v xs → refuses v → EndsInAbort xs → FoldsTo {P = F} {A = ℕ × WaitAction} (λ p x j. AskedOnce g shown p x.0 x.1 j) f xs q → Good f → MayAnswerAbort h wait refuses
+    pub ends_abort : (xs : List (ℕ × WaitAction)) (v : ℕ) (f q : F) → Asks g shown refuses v xs → refuses v → EndsInAbort xs → FoldsTo {P = F} {A = ℕ × WaitAction} (λ p x j. AskedOnce g shown p x.0 x.1 j) f xs q → Good f → MayAnswerAbort h wait refuses
     ends_abort [] v f q asks bars ends led good = absurd ends
     ends_abort (x ∷ []) v f q asks bars ends led good = answer_of f x.0 x.1 _ led.0 good (subst refuses (sym asks) bars) ends led.1
     ends_abort (x ∷ y ∷ xs) v f q asks bars ends led good = ends_abort (y ∷ xs) y.0 led.0 q asks.3 asks.2 ends led.2 (leads _ _ _ _ good led.1.called).0
 
-    first_goes_on : (xs : List (ℕ × WaitAction)) (v : ℕ) (f q : F) → Asks g shown refuses v xs → refuses v → FoldsTo {P = F} {A = ℕ × WaitAction} (λ p x j. AskedOnce g shown p x.0 x.1 j) f xs q → Good f → 2 ≤ length xs → MayAnswerContinue h wait refuses
+    pub first_goes_on : (xs : List (ℕ × WaitAction)) (v : ℕ) (f q : F) → Asks g shown refuses v xs → refuses v → FoldsTo {P = F} {A = ℕ × WaitAction} (λ p x j. AskedOnce g shown p x.0 x.1 j) f xs q → Good f → 2 ≤ length xs → MayAnswerContinue h wait refuses
     first_goes_on [] v f q asks bars led good often = absurd asks
     first_goes_on (x ∷ []) v f q asks bars led good often = absurd (two_not_one x often)
     first_goes_on (x ∷ y ∷ xs) v f q asks bars led good often = answer_of f x.0 x.1 _ led.0 good (subst refuses (sym asks.0) bars) asks.1 led.1
 
-    some_asked : (xs : List (ℕ × WaitAction)) (v : ℕ) → Asks g shown refuses v xs → 1 ≤ length xs
+    pub some_asked : (xs : List (ℕ × WaitAction)) (v : ℕ) → Asks g shown refuses v xs → 1 ≤ length xs
     some_asked [] v asks = absurd asks
     some_asked (x ∷ xs) v asks = one_at_least x xs
 
