@@ -1,4 +1,3 @@
 pub mod Names
 pub mod BarrierKeeps
 pub mod BarrierPlays
-pub mod BarrierAsks

@@ -3,8 +3,8 @@ ghost use Rattle.std.specs.Prelude.{◌≡◌};
 ghost use Rattle.running_model.specs.Asked.{AskedOnce};
 ghost use Rattle.running_model.specs.Turns.{action_in, pass_in};
 
-use crate::calling::answer;
 pub use crate::calling::Ran;
+use crate::calling::answer;
 pub use crate::choosing::{Choice, Chooses, Chosen, Nothing, TurnWith};
 pub use crate::tries::{Attempt, try_again, try_again_by};
 use model_events::WaitAction;
