@@ -1,5 +1,5 @@
 use Rattle.std.proofs.lemmas.Bool.{false≢true}
-use Rattle.running_guarded.proofs.Names.{true, MatchBool, Locks, SeesLocked, WaitAction, Call, MutexPlace, mutex_model, spun, IsStanding, refl, sym, subst, ap, ◌∙◌, MatchBool-at_true, MatchBool-at_false}
+use Rattle.running_guarded.proofs.Names.{◌+◌, true, MatchBool, Locks, SeesLocked, WaitAction, Call, MutexPlace, mutex_model, spun, IsStanding, refl, sym, subst, ap, ◌∙◌, MatchBool-at_true, MatchBool-at_false}
 use Rattle.running_guarded.proofs.GuardedSights.{sees_once, sees_on, enters_now, enters_later, ended, may_try, led_answered}
 use Rattle.running_model.proofs.Questions.{one, more}
 use Rattle.running_model.specs.Turns.{action_heard, seat_in}
@@ -30,9 +30,9 @@ loop-preserved g c = let still_locked = subst (λ s. SeesLocked s.me.0 c.exchang
     c.exchange-free.ensures.same.1 ∙ ap (λ s. s.id) (sym (ap seat_in c.in-Continue.is) ∙ c.ask-answer.ensures.still) ∙ c.loop.invariant.same.1,
   );
   no_slot = MatchBool-at_false _ _ c.if-free.false c.exchange-free.ensures.slot;
-  saw = record { times = c.loop.invariant.saw.times + 1; seen = sees_on c.loop.invariant.saw.times 1 _ _ _ c.loop.invariant.saw.seen (sees_once _ _ still_locked) };
+  saw = record { times = c.loop.invariant.saw.times + 1; seen = sees_on c.loop.invariant.saw.times 1 _ _ _ c.loop.invariant.saw.seen (sees_once c.loop.next.seat.me.0 c.exchange-free.result.1.seat.me.0 still_locked) };
   may = c.ask-answer.ensures.may_again;
-  asked = λ after granted now rest. c.loop.invariant.asked after granted now (more _ _ _ _ _ _ _ _ _ _ _ _ _ _ (ap action_heard c.in-Continue.is) refl (λ _. (sees_once _ _ still_locked).count) c.ask-answer.ensures.asked rest);
+  asked = λ after granted now rest. c.loop.invariant.asked after granted now (more _ _ _ _ _ _ _ _ _ _ _ _ _ _ (ap action_heard c.in-Continue.is) refl (λ _. (sees_once c.loop.next.seat.me.0 c.exchange-free.result.1.seat.me.0 still_locked).count) c.ask-answer.ensures.asked rest);
   at = λ done stood. MatchBool-at_false _ _ c.if-free.false
       (led_answered _ WaitAction.Continue done c.in-Continue.continued.seat.me.0 c.exchange-free.result.1.seat.me.0 c.exchange-free.ensures.tried
       (subst (λ s. IsStanding mutex_model Call.Lock MutexPlace.Lock 1 done s.me.0.tally.parties) (sym (sym (ap seat_in c.in-Continue.is) ∙ c.ask-answer.ensures.still)) (c.loop.invariant.at done stood)));
@@ -50,4 +50,4 @@ returns-in-Abort-clause-over g c = λ done stood. led_answered _ WaitAction.Abor
     (subst (λ s. IsStanding mutex_model Call.Lock MutexPlace.Lock 1 done s.me.0.tally.parties) (sym (sym (ap seat_in c.in-Abort.is) ∙ c.ask-answer.ensures.still)) (c.loop.invariant.at done stood))
 
 pub returns-in-Abort-clause-asked : goal.returns-in-Abort-clause-asked
-returns-in-Abort-clause-asked g c = c.loop.invariant.asked _ _ _ (one _ _ _ _ _ _ _ _ _ _ _ (λ _. ap action_heard c.in-Abort.is) (λ no _. (sees_once _ _ (subst (λ s. SeesLocked s.me.0 c.exchange-done.result.1.seat.me.0) (sym (ap seat_in c.in-Abort.is) ∙ c.ask-answer.ensures.still) (MatchBool-at_false _ _ no c.exchange-done.ensures.locked))).count) c.ask-answer.ensures.asked)
+returns-in-Abort-clause-asked g c = c.loop.invariant.asked _ _ _ (one _ _ _ _ _ _ _ _ _ _ _ (λ _. ap action_heard c.in-Abort.is) (λ no _. (sees_once c.loop.next.seat.me.0 c.exchange-done.result.1.seat.me.0 (subst (λ s. SeesLocked s.me.0 c.exchange-done.result.1.seat.me.0) (sym (ap seat_in c.in-Abort.is) ∙ c.ask-answer.ensures.still) (MatchBool-at_false _ _ no c.exchange-done.ensures.locked))).count) c.ask-answer.ensures.asked)

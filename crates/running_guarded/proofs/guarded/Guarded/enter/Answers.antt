@@ -54,7 +54,7 @@ pub returns-clause-entered : goal.returns-clause-entered
 returns-clause-entered g c = let asked = c.ask_and_try-granted.ensures.asked in
     subst (λ s. MatchBool c.ask_and_try-granted.result.0 (Enters c.args.seat.me.0 s.me.0) (GivesUp 10001 g.W.Fn c.args.wait c.args.seat.me.0 s.me.0)) (sym c.end-2.ensures.still)
     (gave_up g.W.Fn c.args.wait _ _ _ _ (length asked.asked) (sees_on 1 10000 _ _ _ (sees_once _ _ (MatchBool-at_false _ _ c.if-free.false c.first-free.ensures.locked)) (MatchBool-at_false _ _ c.if-soon.false c.spin-soon.ensures.entered)) c.ask_and_try-granted.ensures.entered
-    (λ no. (asked.looks no tt, some_asked _ _ IsLocked g.W.Fn c.args.wait (λ f. f ≡ c.args.wait) (λ f a r after good called. (g.met.W.Fn.1.step_stays _ _ _ _ called ∙ good, record { met = subst (λ x. g.W.Fn.post x a r) good ((g.met.W.FnMut.1.post_iff _ _ _).1 (after, called)) })) asked.asked 1 asked.asks, first_goes_on _ _ IsLocked g.W.Fn c.args.wait (λ f. f ≡ c.args.wait) (λ f a r after good called. (g.met.W.Fn.1.step_stays _ _ _ _ called ∙ good, record { met = subst (λ x. g.W.Fn.post x a r) good ((g.met.W.FnMut.1.post_iff _ _ _).1 (after, called)) })) asked.asked 1 c.args.wait _ asked.asks refl asked.led refl)))
+    (λ no. (asked.looks no tt, some_asked _ c.word.result.shown IsLocked g.W.Fn c.args.wait (λ f. f ≡ c.args.wait) (λ f a r after good called. (g.met.W.Fn.1.step_stays _ _ _ _ called ∙ good, record { met = subst (λ x. g.W.Fn.post x a r) good ((g.met.W.FnMut.1.post_iff _ _ _).1 (after, called)) })) asked.asked 1 asked.asks, first_goes_on _ _ IsLocked g.W.Fn c.args.wait (λ f. f ≡ c.args.wait) (λ f a r after good called. (g.met.W.Fn.1.step_stays _ _ _ _ called ∙ good, record { met = subst (λ x. g.W.Fn.post x a r) good ((g.met.W.FnMut.1.post_iff _ _ _).1 (after, called)) })) asked.asked 1 c.args.wait _ asked.asks refl asked.led refl)))
 
 pub returns-clause-aborted : goal.returns-clause-aborted
 returns-clause-aborted g c = λ no. let asked = c.ask_and_try-granted.ensures.asked in ends_abort _ _ IsLocked g.W.Fn c.args.wait (λ f. f ≡ c.args.wait) (λ f a r after good called. (g.met.W.Fn.1.step_stays _ _ _ _ called ∙ good, record { met = subst (λ x. g.W.Fn.post x a r) good ((g.met.W.FnMut.1.post_iff _ _ _).1 (after, called)) })) asked.asked 1 c.args.wait _ asked.asks refl (asked.ends no) asked.led refl
