@@ -10,7 +10,7 @@ pub use Rattle.running_passes.proofs.Sums.{sum_at}
 pub use Rattle.running_model.specs.CountLists.{in_both}
 pub use Rattle.running_barrier.specs.Barrier.{rounds_add_up, sum_cons, sum_more, by_count, again, arrives, waiters_fit}
 pub use Rattle.running_barrier.specs.BarrierSteps.{BarrierView, ArrivalsAreOfARun, OpenRoundsAreFull, Says, HasAll, Loaded, Arrives, Exchanged}
-pub use Rattle.running_barrier.specs.BarrierShown.{BarrierPass, counts_of, arrivals_of, IsNextWord, waiters_of, HasStayed, reached_of, HasPlayed, HasFilled}
+pub use Rattle.running_barrier.specs.BarrierShown.{BarrierPass, counts_of, arrivals_of, IsNextWord, waiters_of, HasStayed, reached_of, HasPlayed, HasFilled, AskedEach}
 pub use Rattle.model_events.specs.declared.WaitAction.{WaitAction}
 pub use Rattle.model_events.specs.declared.row.After.{After}
 pub use Rattle.running_model.specs.Turns.{IsOverAside}

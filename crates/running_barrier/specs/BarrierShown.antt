@@ -1,5 +1,9 @@
 -- What contracts see of a barrier and its pass, and what a call changes in a pass.
-use Rattle.std.specs.Prelude.{◌≡◌, ℕ, ◌+◌, ◌<◌, ◌≤◌, ◌%◌, ◌^◌, ◌⊎◌, List, None}
+use Rattle.std.specs.Prelude.{◌≡◌, ℕ, ◌+◌, ◌<◌, ◌≤◌, ◌%◌, ◌^◌, ◌⊎◌, List, None, length}
+use Rattle.std.specs.Borrow.{Bor}
+use Rattle.std.specs.Fn.{Mut}
+use Rattle.std.specs.List.{FoldsTo}
+use Rattle.running_model.specs.Asked.{AskedOnce}
 use Rattle.running_barrier.specs.Names.{sum, Call, Answer, Then, BarrierPlace, epoch_of, count_of, opened, barrier_model, IsWhole, seen, stale, IsSamePass, part_of, sights_of, Played, all_of, HasCalled, IsAt, parties_of, tally_of, Rounds, BarrierScript, one_more, Pass, IsPassOf, key_of}
 use Rattle.atomic_table.specs.Seated.{TableId}
 use Rattle.running_model.specs.Stages.{id_of}
@@ -93,6 +97,17 @@ pub record HasWaited (times : ℕ) (p q : BarrierPass) : Type 0 where
   pub known : reached_of p ≤ reached_of q
   pub opened : opened_of p ≤ opened_of q
   pub saw : (sights_of p).count ≤ (sights_of q).count
+
+module _ {F X : Type 0} (g : Mut F (Bor X × (Bor ℕ × Unit {0})) (Unit {0})) (shown : X) (epoch : ℕ) where
+  -- These calls of the wait closure, and no other, led it from f to after. Each was told a word of this epoch, and there was one look for each.
+  pub record AskedEach (f after : F) (before now : ℕ) : Type 0 where
+    pub told : List ℕ
+    pub looks : now ≡ before + length told
+    pub led : FoldsTo {P = F} {A = ℕ} (λ p n q. (epoch_of n ≡ epoch) × AskedOnce g shown p n tt q) f told after
+
+  -- so, once the call had looked by itself
+  abbrev pub AskedLater : F → F → ℕ → ℕ → Type 0
+  AskedLater f after before now = (stood : ℕ) × (stood ≤ before + 10001) × AskedEach f after stood now
 
 -- The pass as a party of the model, of a barrier for n.
 

@@ -62,7 +62,7 @@ pub type BarrierPass = Pass<PlayedBarrier>;
 pub struct BarrierFull;
 
 impl<A: Allocator, S> Barrier<A, S> {
-    ghost use Rattle.std.specs.Prelude.{true, false, ◌+◌, ◌%◌, ◌^◌, ◌≢◌, [], ◌∷◌, MatchBool, IfErr, is_ok, Some, List};
+    ghost use Rattle.std.specs.Prelude.{true, false, ◌+◌, ◌%◌, ◌^◌, ◌≢◌, ◌≤◌, [], ◌∷◌, MatchBool, IfErr, is_ok, Some, List};
     ghost use Rattle.model_events.specs.declared.event.Word.TheVariants as words;
     ghost use Rattle.model_events.specs.declared.event.Call.TheVariants as calls;
     ghost use Rattle.model_events.specs.declared.event.Answer.TheVariants as answers;
@@ -79,7 +79,7 @@ impl<A: Allocator, S> Barrier<A, S> {
     ghost use Rattle.running_passes.specs.Sights.{stale};
     ghost use Rattle.running_barrier.specs.BarrierSteps.{Loaded, Exchanged, HasAll};
     ghost use Rattle.running_barrier.specs.BarrierParties.{HasLooked, HasJoined, ComesToStay, Looks, HasLeft, OnceLooked, OnceToStay, OnceLooking};
-    ghost use Rattle.running_barrier.specs.BarrierShown.{IsBarrierPass, IsItsWord, waiters_of, reached_of, opened_of, HasArrived, HasLookedOnce, HasStayed, HasPassed, IsNextWord, HasPlayed, HasFilled};
+    ghost use Rattle.running_barrier.specs.BarrierShown.{IsBarrierPass, IsItsWord, waiters_of, reached_of, opened_of, HasArrived, HasLookedOnce, HasStayed, HasPassed, IsNextWord, HasPlayed, HasFilled, AskedEach, AskedLater};
 
     /// A barrier for so many waiters, and the pass that is whole. `Err` where there was no memory; then nothing was made.
     pub fn new(alloc: A, number_of_waiters: u32) -> Result<(Barrier<A, S>, BarrierPass), AllocError>
@@ -138,7 +138,7 @@ impl<A: Allocator, S> Barrier<A, S> {
             let _pass = woken.end_aside(&self.stage);
             return Ok(());
         }
-        let left = self.stay(rt, joined, epoch_of(from), &word, &wait);
+        let (left, _wait) = self.stay(rt, joined, epoch_of(from), &word, wait);
         let _pass = left.end(&self.stage);
         Ok(())
     }
@@ -203,25 +203,26 @@ impl<A: Allocator, S> Barrier<A, S> {
         unreachable!()
     }
 
-    /// Waits until the epoch is another than this one, which was that of the last look or arrival.
-    fn stay<'p, X: Shown, R: Wait, W: Fn(&X, &u64)>(
+    /// Waits until the epoch is another than this one, which was that of the last look or arrival. Gives the wait closure back.
+    fn stay<'p, X: Shown, R: Wait, W: FnMut(&X, &u64)>(
         &self,
         rt: &R,
         turn: Turn<'p, BarrierPass, Goes>,
         own_epoch: u64,
         word: &Sealed<X>,
-        wait: &W,
-    ) -> Turn<'p, BarrierPass, Goes>
+        wait: W,
+    ) -> (Turn<'p, BarrierPass, Goes>, W)
         requires own { IsBarrierPass self.now turn.pass.now }
         requires own_epoch { own_epoch ≡ reached_of turn.pass.now % 2 ^ 32 }
         requires comes { (done : List (Slot ℕ)) × ComesToStay (waiters_of self.now) own_epoch done (parties_of turn.pass.now) }
         requires its { IsItsWord self.now (X.object word.now.shown) (X.index word.now.shown) }
-        requires may { W.IsAlwaysCallable wait.now }
-        ensures same_borrow { result.pass.ghost_name ≡ turn.entry.pass.ghost_name }
-        ensures stayed { HasStayed turn.entry.pass.now result.pass.now }
-        ensures reached { reached_of turn.entry.pass.now < reached_of result.pass.now }
-        ensures all { HasAll (waiters_of self.now) (counted result.pass.now) }
-        ensures left { OnceToStay (waiters_of self.now) own_epoch (parties_of turn.entry.pass.now) (λ done. HasLeft (waiters_of self.now) done (parties_of result.pass.now)) }
+        requires may { W.IsAlwaysCallable wait }
+        ensures same_borrow { result.0.pass.ghost_name ≡ turn.entry.pass.ghost_name }
+        ensures stayed { HasStayed turn.entry.pass.now result.0.pass.now }
+        ensures reached { reached_of turn.entry.pass.now < reached_of result.0.pass.now }
+        ensures all { HasAll (waiters_of self.now) (counted result.0.pass.now) }
+        ensures asked { AskedLater W.FnMut word.now.shown own_epoch wait result.1 (sights_of turn.entry.pass.now).count (sights_of result.0.pass.now).count }
+        ensures left { OnceToStay (waiters_of self.now) own_epoch (parties_of turn.entry.pass.now) (λ done. HasLeft (waiters_of self.now) done (parties_of result.0.pass.now)) }
     {
         let (seen, spun) = self.spin(turn, own_epoch);
         self.ask(rt, spun, own_epoch, seen, word, wait)
@@ -239,6 +240,7 @@ impl<A: Allocator, S> Barrier<A, S> {
         ensures stayed { HasStayed turn.entry.pass.now result.1.pass.now }
         ensures epoch { epoch_of result.0 ≡ reached_of result.1.pass.now % 2 ^ 32 }
         ensures spun { epoch_of result.0 ≡ own_epoch → (sights_of result.1.pass.now).count ≡ (sights_of turn.entry.pass.now).count + 10001 }
+        ensures at_most { (sights_of result.1.pass.now).count ≤ (sights_of turn.entry.pass.now).count + 10001 }
         ensures all { HasAll (waiters_of self.now) (counted result.1.pass.now) }
         ensures looks { OnceToStay (waiters_of self.now) own_epoch (parties_of turn.entry.pass.now) (λ done. Looks (waiters_of self.now) own_epoch 10000 result.0 done (parties_of result.1.pass.now)) }
     {
@@ -257,35 +259,38 @@ impl<A: Allocator, S> Barrier<A, S> {
         (seen, next)
     }
 
-    /// The wait closure before each further look, until the epoch is another than this one.
-    fn ask<'p, X: Shown, R: Wait, W: Fn(&X, &u64)>(
+    /// The wait closure before each further look, until the epoch is another than this one. Gives it back.
+    fn ask<'p, X: Shown, R: Wait, W: FnMut(&X, &u64)>(
         &self,
         rt: &R,
         turn: Turn<'p, BarrierPass, Goes>,
         own_epoch: u64,
         seen: u64,
         word: &Sealed<X>,
-        wait: &W,
-    ) -> Turn<'p, BarrierPass, Goes>
+        wait: W,
+    ) -> (Turn<'p, BarrierPass, Goes>, W)
         requires own { IsBarrierPass self.now turn.pass.now }
         requires epoch { epoch_of seen ≡ reached_of turn.pass.now % 2 ^ 32 }
         requires all { HasAll (waiters_of self.now) (counted turn.pass.now) }
         requires looks { (done : List (Slot ℕ)) × Looks (waiters_of self.now) own_epoch 10000 seen done (parties_of turn.pass.now) }
         requires its { IsItsWord self.now (X.object word.now.shown) (X.index word.now.shown) }
-        requires may { W.IsAlwaysCallable wait.now }
-        ensures same_borrow { result.pass.ghost_name ≡ turn.entry.pass.ghost_name }
-        ensures stayed { HasStayed turn.entry.pass.now result.pass.now }
-        ensures other { reached_of result.pass.now % 2 ^ 32 ≢ own_epoch }
-        ensures all { HasAll (waiters_of self.now) (counted result.pass.now) }
-        ensures left { OnceLooking (waiters_of self.now) own_epoch 10000 seen (parties_of turn.entry.pass.now) (λ done. HasLeft (waiters_of self.now) done (parties_of result.pass.now)) }
+        requires may { W.IsAlwaysCallable wait }
+        ensures same_borrow { result.0.pass.ghost_name ≡ turn.entry.pass.ghost_name }
+        ensures stayed { HasStayed turn.entry.pass.now result.0.pass.now }
+        ensures other { reached_of result.0.pass.now % 2 ^ 32 ≢ own_epoch }
+        ensures all { HasAll (waiters_of self.now) (counted result.0.pass.now) }
+        ensures asked { AskedEach W.FnMut word.now.shown own_epoch wait result.1 (sights_of turn.entry.pass.now).count (sights_of result.0.pass.now).count }
+        ensures left { OnceLooking (waiters_of self.now) own_epoch 10000 seen (parties_of turn.entry.pass.now) (λ done. HasLeft (waiters_of self.now) done (parties_of result.0.pass.now)) }
     {
         let mut seen = seen;
         let mut next = turn;
+        let mut wait = wait;
         for _ in rt.forever() {
             if epoch_of(seen) != own_epoch {
-                return next;
+                return (next, wait);
             }
-            let continued = next.tell(&self.stage, word, seen, wait);
+            let (continued, asked) = next.tell(&self.stage, word, seen, wait);
+            wait = asked;
             let (found, again) = self.look(continued);
             seen = found;
             next = again;

@@ -19,9 +19,11 @@ ghost use Rattle.running_mutex.specs.MutexParties.{HasMutex};
 ghost use Rattle.running_condvar.specs.CondParties.{HasWaitInside};
 ghost use Rattle.running_condvar.specs.Cond.{CountIsInside};
 
+mod left;
 mod shares;
 mod waits;
 
+use crate::left::Left;
 pub use crate::waits::Waits;
 use crate::waits::{PlayedWaits, WaitersScript};
 use model_condvar::permits_for;
@@ -29,7 +31,7 @@ use model_events::WaitAction;
 use model_events::event::Wake;
 use model_waiters::WaitersPlace;
 use running_model::calls::{ValueCall, WaitCall};
-use running_model::turn::{AfterAside, Goes, Turn, begin_new};
+use running_model::turn::{AfterAside, Goes, Ran, Turn, begin_new};
 use running_model::{OfWord, OwnWords, Sealed, Shown, Shows, Stage};
 use running_mutex::{Mutex, MutexHold, MutexPass, MutexWord};
 use running_passes::{Pass, WaitResult};
@@ -172,6 +174,7 @@ impl<A: Allocator, S> ConditionVariable<A, S> {
     ghost use Rattle.running_passes.specs.Answers.{IfSuccess, IfInterrupted, IsSuccess, RestsIfInterrupted, HasWoken};
     ghost use Rattle.running_passes.specs.Parts.{IsWhole};
     ghost use Rattle.running_model.specs.Stages.{IsPassOf};
+    ghost use Rattle.running_model.specs.Turns.{given_by};
     ghost use Rattle.running_model.specs.Counts.{HasSeen, HasDone};
     ghost use Rattle.running_passes.specs.Passes.{view, part_of};
     ghost use Rattle.running_passes.specs.Views.{first_view};
@@ -428,9 +431,9 @@ impl<A: Allocator, S> ConditionVariable<A, S> {
         ensures slept { HasSlept W.Fn wait.now (initial_of self.now.semaphore) result.1 permits.old permits.new }
     {
         let counted = self.count_in(waits);
-        let left = leave(&CountedWait { turn: &counted });
-        let (signalled, _waits) = self.sleep(rt, counted, permits, word, wait);
-        (left, signalled)
+        let left = CountedWait { turn: &counted }.leave(leave);
+        let (signalled, _waits) = self.sleep(rt, counted, &left, permits, word, wait);
+        (left.into_given(), *signalled.given())
     }
 
     /// What `wait_held` does until it locks the mutex again, and whether a permit was taken.
@@ -468,9 +471,9 @@ impl<A: Allocator, S> ConditionVariable<A, S> {
         ensures woke { HasWoken K.Fn mtx_wake_one }
     {
         let inside = self.count_in(waits);
-        mtx.unlock(MutexHold { pass: mtx_pass }, mtx_wake_one);
-        let (signalled, _outside) = self.sleep(rt, inside, permits, word, wait);
-        signalled
+        let left = CountedWait { turn: &inside }.unlock(mtx, mtx_pass, mtx_wake_one);
+        let (slept, _outside) = self.sleep(rt, inside, &left, permits, word, wait);
+        *slept.given()
     }
 
     /// How many are counted as waiting.
@@ -503,14 +506,15 @@ impl<A: Allocator, S> ConditionVariable<A, S> {
     /// Waits for a permit, as the counted wait is to do until it is counted out, and counts it out. Whether a permit was taken, and the pass of
     /// the count.
     #[inline(always)]
-    fn sleep<'p, X: Shown, R: Wait, W: Fn(&X, &u64) -> WaitAction>(
+    fn sleep<'p, Y, X: Shown, R: Wait, W: Fn(&X, &u64) -> WaitAction>(
         &self,
         rt: &R,
         counted: Turn<'p, Pass<PlayedWaits>, Goes>,
+        left: &Left<Y>,
         permits: &mut SemPass,
         word: &Sealed<X>,
         wait: &W,
-    ) -> (bool, &'p mut Pass<PlayedWaits>)
+    ) -> (Ran<bool>, &'p mut Pass<PlayedWaits>)
         requires own { IsPassOf self.now.number_of_waiters counted.pass.now × IsSemPass self.now.semaphore permits.old }
         requires inside { (done : List (Slot ℕ)) × IsInside done (parties_of counted.pass.now) }
         requires its { IsItsWord self.now.semaphore (X.object word.now.shown) (X.index word.now.shown) }
@@ -518,7 +522,7 @@ impl<A: Allocator, S> ConditionVariable<A, S> {
         ensures same_borrow { result.1.ghost_name ≡ counted.entry.pass.ghost_name }
         ensures counted { HasDone went_out counted.entry.pass.now result.1.now }
         ensures out { (done : List (Slot ℕ)) → IsInside done (parties_of counted.entry.pass.now) → IsOut done (parties_of result.1.now) }
-        ensures slept { HasSlept W.Fn wait.now (initial_of self.now.semaphore) result.0 permits.old permits.new }
+        ensures slept { HasSlept W.Fn wait.now (initial_of self.now.semaphore) (given_by result.0) permits.old permits.new }
     {
         let (signalled, slept) = counted.run(
             &self.number_of_waiters,
@@ -526,7 +530,7 @@ impl<A: Allocator, S> ConditionVariable<A, S> {
             |permits: &mut SemPass| -> bool
                 requires { IsSemPass self.now.semaphore permits.old × IsItsWord self.now.semaphore (X.object word.now.shown) (X.index word.now.shown) × W.IsAlwaysCallable wait.now }
                 ensures { HasSlept W.Fn wait.entry.now (initial_of self.entry.now.semaphore) result permits.old permits.new }
-            { self.take(rt, permits, word, wait) },
+            { self.take(rt, left, permits, word, wait) },
         );
         (signalled, self.count_out(slept))
     }
@@ -549,9 +553,10 @@ impl<A: Allocator, S> ConditionVariable<A, S> {
 
     /// The semaphore's `wait`, and whether a permit was taken.
     #[inline(always)]
-    fn take<X: Shown, R: Wait, W: Fn(&X, &u64) -> WaitAction>(
+    fn take<Y, X: Shown, R: Wait, W: Fn(&X, &u64) -> WaitAction>(
         &self,
         rt: &R,
+        _left: &Left<Y>,
         permits: &mut SemPass,
         word: &Sealed<X>,
         wait: &W,

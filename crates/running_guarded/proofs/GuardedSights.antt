@@ -1,5 +1,5 @@
 -- What becomes of what a pass knows over several exchanges.
-use Rattle.running_guarded.proofs.Names.{Bool, true, false, MatchBool, Some, None, List, Bor, Shared, seen_instead, MayAnswerContinue, WaitAction, Call, HoldKind, MutexPlace, mutex_model, Slot, all_of, Coming, Going, Beginning, Answered, ComesBy, MayStep, spun, IsGranted, IsRefused, IsStanding, IsLocked, Locks, Enters, ◌≡◌, ◌≤◌, ◌<◌, ℕ, ◌+◌, [], ◌∷◌, refl, ap, subst, arith, may_lock, lock_begins, lock_goes, Word, Intent, Patience, spins_on, stands, tries_on, MutexView, SeesLocked, Tries, SeesLockedOften, GivesUp, nat_tests, eqb-true, eqb-false}
+use Rattle.running_guarded.proofs.Names.{Bool, true, false, MatchBool, Some, None, List, Bor, Shared, seen_instead, MayAnswerContinue, WaitAction, Call, HoldKind, MutexPlace, mutex_model, Slot, all_of, Coming, Going, Beginning, Answered, ComesBy, MayStep, spun, IsGranted, IsRefused, IsStanding, IsLocked, Locks, Enters, ◌≡◌, ◌≤◌, ◌<◌, ℕ, ◌+◌, [], ◌∷◌, refl, ap, subst, arith, may_lock, lock_begins, lock_goes, Word, Intent, Patience, spins_on, stands, tries_on, MutexView, SeesLocked, Tries, SeesLockedOften, StaysLocked, GivesUp, nat_tests, eqb-true, eqb-false}
 use Rattle.model_events.specs.Rows.{answered}
 use Rattle.running_spin_lock.proofs.ValueSights as values
 
@@ -15,23 +15,12 @@ enters_now v w locks = values.enters_now v w locks
 pub enters_later : (n : ℕ) (u v w : MutexView) → SeesLockedOften n u v → Enters v w → Enters u w
 enters_later n u v w seen enters = values.enters_later u v w seen.only enters
 
--- so far it was seen locked once after each answer of the wait closure, and each was Continue
-pub record GoesOn {F W : Type 0} (g : Shared F (Bor W × (Bor ℕ × Unit {0})) WaitAction) (wait : F) (v w : MutexView) : Type 0 where
-  pub answers : ℕ
-  pub seen : SeesLockedOften answers v w
-  pub before : 1 ≤ answers → MayAnswerContinue g wait IsLocked
-
-module _ {F W : Type 0} (g : Shared F (Bor W × (Bor ℕ × Unit {0})) WaitAction) (wait : F) where
-  pub goes_on : (u v w : MutexView) → GoesOn g wait u v → MayAnswerContinue g wait IsLocked → SeesLocked v w → GoesOn g wait u w
-  goes_on u v w gone answer once = record { answers = gone.answers + 1; seen = sees_on gone.answers 1 u v w gone.seen (sees_once v w once); before = λ _. answer }
-
-  pub gives_up : (u v w : MutexView) → GoesOn g wait u v → SeesLocked v w → GivesUp 0 g wait u w
-  gives_up u v w gone once = record {
-    more = gone.answers + 1;
-    refused = subst (λ n. SeesLockedOften n u w) (omega arith) (sees_on gone.answers 1 u v w gone.seen (sees_once v w once));
-    some = omega arith;
-    again = λ often. gone.before (omega (arith, often));
-  }
+-- a call that gave up by its own tries, and as many that came after a question each
+pub gave_up : {F W : Type 0} (h : Shared F (Bor W × (Bor ℕ × Unit {0})) WaitAction) (wait : F) (b : Bool) (u v w : MutexView) (asked : ℕ) → SeesLockedOften 10001 u v → MatchBool b (Enters v w) (StaysLocked v w)
+    → (b ≡ false → (w.sights.count ≡ v.sights.count + asked) × (1 ≤ asked) × (2 ≤ asked → MayAnswerContinue h wait IsLocked)) → MatchBool b (Enters u w) (GivesUp 10001 h wait u w)
+gave_up h wait true u v w n seen enters so = enters_later 10001 u v w seen enters
+gave_up h wait false u v w n seen stays so = let is = so refl in
+    record { more = n; refused = sees_on 10001 n u v w seen (subst (λ k. SeesLockedOften k v w) (omega (arith, stays.seen.count, is.0)) stays.seen); some = is.1; again = is.2 }
 
 -- The exchanges of `lock`: that they may be made, and where they lead.
 
@@ -79,7 +68,6 @@ pub led_answered : (free : Bool) (action : WaitAction) (done : List (Slot ℕ)) 
 led_answered free action done v w t at = led free (Answered action) (answered (spun 10000) action) done v w t (tries_on mutex_model Call.Lock MutexPlace.Lock (λ p a. refl) action 1 done v.tally.parties at)
 
 -- how a call that asked ended, by whether its last exchange was done
-module _ {F W : Type 0} (g : Shared F (Bor W × (Bor ℕ × Unit {0})) WaitAction) (wait : F) where
-  pub ended : (b : Bool) (u v w : MutexView) → GoesOn g wait u v → MatchBool b (Locks v w) (SeesLocked v w) → MatchBool b (Enters u w) (GivesUp 0 g wait u w)
-  ended true u v w gone locks = enters_later gone.answers u v w gone.seen (enters_now v w locks)
-  ended false u v w gone sees = gives_up g wait u v w gone sees
+pub ended : (b : Bool) (u v w : MutexView) → StaysLocked u v → MatchBool b (Locks v w) (SeesLocked v w) → MatchBool b (Enters u w) (StaysLocked u w)
+ended true u v w stays locks = enters_later stays.times u v w stays.seen (enters_now v w locks)
+ended false u v w stays sees = record { times = stays.times + 1; seen = sees_on stays.times 1 u v w stays.seen (sees_once v w sees) }

@@ -17,7 +17,7 @@ pub use Rattle.model_events.specs.declared.row.Intent.{Intent}
 pub use Rattle.model_events.specs.declared.patience.Patience.{Patience}
 pub use Rattle.running_model.proofs.Patience.{spins_on, stands, tries_on}
 pub use Rattle.running_guarded.specs.GuardedRule.{MutexView}
-pub use Rattle.running_guarded.specs.GuardedSteps.{SeesLocked, Tries, SeesLockedOften, GivesUp, PlaysBoth, Plays, PlaysUnlock}
+pub use Rattle.running_guarded.specs.GuardedSteps.{SeesLocked, Tries, SeesLockedOften, StaysLocked, GivesUp, PlaysBoth, Plays, PlaysUnlock}
 pub use Rattle.running_guarded.specs.declared.pass.GuardedPass.{GuardedPass}
 pub use Rattle.running_guarded.specs.GuardedShown.{HasLockedOften, grants_of, view, guard_with, HasStayed}
 pub use Rattle.std.proofs.Math.Bool.{Bool-set}

@@ -20,6 +20,11 @@ pub record SeesLockedOften (n : ℕ) (v w : MutexView) : Type 0 where
   pub count : w.sights.count ≡ v.sights.count + n
   pub last : IsLocked w.sights.last
 
+-- so, however often
+pub record StaysLocked (v w : MutexView) : Type 0 where
+  pub times : ℕ
+  pub seen : SeesLockedOften times v w
+
 -- A call that gave up was refused in so many tries of its own, and in one or more once it had asked its wait closure; in a second only
 -- where that may answer Continue.
 pub record GivesUp {F W : Type 0} (tries : ℕ) (g : Shared F (Bor W × (Bor ℕ × Unit {0})) WaitAction) (wait : F) (v w : MutexView) : Type 0 where

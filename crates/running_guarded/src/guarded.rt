@@ -11,6 +11,7 @@ ghost use Rattle.model_events.specs.declared.row.Intent.TheVariants as intents;
 ghost use Rattle.model_events.specs.declared.WaitAction.TheVariants as actions;
 ghost use Rattle.model_mutex.specs.declared.MutexPlace.TheVariants as places;
 ghost use Rattle.running_mutex.specs.Mutex.{mutex_model};
+ghost use Rattle.running_model.specs.Asked.{Asked};
 ghost use Rattle.running_model.specs.Slots.{Slot};
 ghost use Rattle.running_model.specs.Plays.{Beginning, MayStep};
 ghost use Rattle.running_model.specs.Tries.{spun, IsRefused, IsStanding, IsGranted, HasGivenUp as HasEndedRefused, OnceRefused, OnceStanding};
@@ -19,7 +20,7 @@ ghost use Rattle.running_mutex.specs.MutexShown.{IsLocked};
 ghost use Rattle.running_spin_lock.specs.ValueRule.{none_held};
 ghost use Rattle.running_spin_lock.specs.ValueSteps.{Locks, Lets, Enters, HasValue, has_vacant_slot};
 ghost use Rattle.running_guarded.specs.GuardedRule.{GrantsAreOfARun, OneHolderAtMost};
-ghost use Rattle.running_guarded.specs.GuardedSteps.{SeesLocked, Tries, SeesLockedOften, GivesUp, Plays, PlaysUnlock, PlaysBoth, Acts};
+ghost use Rattle.running_guarded.specs.GuardedSteps.{SeesLocked, Tries, SeesLockedOften, StaysLocked, GivesUp, Plays, PlaysUnlock, PlaysBoth, Acts};
 
 use crate::guard::Guard;
 use crate::pass::GuardedPass;
@@ -121,37 +122,45 @@ impl<T, A: Allocator> Guarded<T, A> {
     }
 
     /// The wait closure before each further exchange, until one is done, or fails after the closure answered `Abort`. It is handed the
-    /// word, and told 1.
-    fn ask_and_try<R: Wait, W: Fn(&GuardedWord<'_, T>, &u64) -> WaitAction>(
+    /// word, and told 1. Gives the closure back.
+    fn ask_and_try<R: Wait, W: FnMut(&GuardedWord<'_, T>, &u64) -> WaitAction>(
         &self,
         turn: SeatTurn<Option<T>, PlayedMutex, Goes>,
         rt: &R,
-        wait: &W,
-    ) -> (bool, SeatTurn<Option<T>, PlayedMutex, Goes>)
+        word: &Sealed<GuardedWord<'_, T>>,
+        wait: W,
+    ) -> (bool, SeatTurn<Option<T>, PlayedMutex, Goes>, W)
         requires own { turn.seat.table_id ≡ id_of self.now }
         requires off { turn.seat.me.0.tally.counts.holds ≡ 0 }
         requires no_slot { turn.seat.me.1 ≡ [] }
         requires alive { 0 < turn.seat.me.0.part.share }
-        requires may { W.IsAlwaysCallable wait.now }
+        requires word { object_shown word.now.shown ≡ id_of self.now }
+        requires may { W.IsAlwaysCallable wait }
         requires seen { IsLocked turn.seat.me.0.sights.last }
         requires at { (done : List (Slot ℕ)) × IsStanding mutex_model calls.Lock places.Lock 1 done turn.seat.me.0.tally.parties }
         ensures same { (result.1.seat.table_id ≡ turn.seat.table_id) × (result.1.seat.id ≡ turn.seat.id) }
-        ensures entered { MatchBool result.0 (Enters turn.seat.me.0 result.1.seat.me.0) (GivesUp 0 W.Fn wait.now turn.seat.me.0 result.1.seat.me.0) }
+        ensures entered { MatchBool result.0 (Enters turn.seat.me.0 result.1.seat.me.0) (StaysLocked turn.seat.me.0 result.1.seat.me.0) }
         ensures slot { MatchBool result.0 (HasValue result.1.seat.me.1) (result.1.seat.me.1 ≡ []) }
-        ensures aborted { result.0 ≡ false → MayAnswerAbort W.Fn wait.now IsLocked }
+        ensures asked { Asked W.FnMut word.now.shown IsLocked 1 wait result.2 result.0 (Unit {0}) turn.seat.me.0.sights.count result.1.seat.me.0.sights.count }
         ensures over { OnceStanding mutex_model calls.Lock places.Lock 1 turn.seat.me.0.tally.parties (λ done. MatchBool result.0 (IsGranted mutex_model calls.Lock places.Lock (Some kinds.Write) done result.1.seat.me.0.tally.parties) (HasEndedRefused mutex_model calls.Lock places.Lock done result.1.seat.me.0.tally.parties)) }
     {
         let mut next = turn;
+        let mut wait = wait;
         for _ in rt.forever() {
-            match next.ask(&self.word(), LOCKED, wait) {
+            let (answer, asked) = next.ask(word, LOCKED, wait);
+            match answer {
                 SeatAnswered::Continue(continued) => {
                     let (free, again) = self.exchange(continued);
                     if free {
-                        return (true, again);
+                        return (true, again, asked);
                     }
                     next = again;
+                    wait = asked;
                 }
-                SeatAnswered::Abort(aborted) => return self.exchange(aborted),
+                SeatAnswered::Abort(aborted) => {
+                    let (done, last) = self.exchange(aborted);
+                    return (done, last, asked);
+                }
             }
         }
         unreachable!()
@@ -163,20 +172,20 @@ impl<T, A: Allocator> Guarded<T, A> {
         &self,
         seat: Seat<Option<T>, View<PlayedMutex>>,
         rt: &R,
-        wait: &W,
+        wait: W,
     ) -> (bool, Seat<Option<T>, View<PlayedMutex>>)
         requires own { seat.table_id ≡ id_of self.now }
         requires off { seat.me.0.tally.counts.holds ≡ 0 }
         requires no_slot { seat.me.1 ≡ [] }
         requires alive { 0 < seat.me.0.part.share }
-        requires may { W.IsAlwaysCallable wait.now }
+        requires may { W.IsAlwaysCallable wait }
         ensures same { (result.1.table_id ≡ seat.table_id) × (result.1.id ≡ seat.id) }
-        ensures entered { MatchBool result.0 (Enters seat.me.0 result.1.me.0) (GivesUp 10001 W.Fn wait.now seat.me.0 result.1.me.0) }
+        ensures entered { MatchBool result.0 (Enters seat.me.0 result.1.me.0) (GivesUp 10001 W.Fn wait seat.me.0 result.1.me.0) }
         ensures slot { MatchBool result.0 (HasValue result.1.me.1) (result.1.me.1 ≡ []) }
         ensures played { MatchBool result.0 (Plays calls.Lock answers.Success (Some kinds.Write) seat.me.0 result.1.me.0) (Plays calls.Lock answers.Interrupted None seat.me.0 result.1.me.0) }
         ensures has { result.0 ≡ true → HasMutex result.1.me.0.tally.parties }
         ensures exact { IsWhole seat.me.0.part → result.0 ≡ true }
-        ensures aborted { result.0 ≡ false → MayAnswerAbort W.Fn wait.now IsLocked }
+        ensures aborted { result.0 ≡ false → MayAnswerAbort W.Fn wait IsLocked }
     {
         let (free, turn) = self.first::<LockCall>(seat);
         if free {
@@ -186,7 +195,7 @@ impl<T, A: Allocator> Guarded<T, A> {
         if soon {
             return (true, spun.end());
         }
-        let (granted, last) = self.ask_and_try(spun, rt, wait);
+        let (granted, last, _) = self.ask_and_try(spun, rt, &self.word(), wait);
         (granted, last.end())
     }
 
@@ -253,7 +262,7 @@ impl<T, A: Allocator> Guarded<T, A> {
         ensures has { HasMutex result.0.me.0.tally.parties }
         ensures vacant { has_vacant_slot result.0.me.1 ≡ true }
     {
-        let (granted, mut seat) = self.enter(seat, rt, &|_, _| go_on());
+        let (granted, mut seat) = self.enter(seat, rt, |_, _| go_on());
         if !granted {
             unreachable!()
         }
@@ -316,7 +325,7 @@ impl<T, A: Allocator> Guarded<T, A> {
         ensures exact { IsAlone pass.old → IsSuccess result }
         ensures aborted { IfInterrupted result (MayAnswerAbort W.Fn wait IsLocked) }
     {
-        let (granted, mut seat) = this.enter(pass.rise(), rt, &wait);
+        let (granted, mut seat) = this.enter(pass.rise(), rt, wait);
         if granted {
             let value = slot::take(&this.table.shared, &mut seat);
             WaitResult::Success(Guard {
@@ -400,7 +409,7 @@ impl<T, A: Allocator> Guarded<T, A> {
         ensures aborted { IfInterrupted result (MayAnswerAbort W.Fn wait IsLocked) }
         ensures woke { IfSuccess result (λ _. HasWoken K.Fn wake_one) }
     {
-        let (granted, mut seat) = self.enter(pass.rise(), rt, &wait);
+        let (granted, mut seat) = self.enter(pass.rise(), rt, wait);
         if !granted {
             *pass = GuardedPass::seated(seat);
             return WaitResult::Interrupted;

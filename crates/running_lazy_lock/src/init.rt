@@ -3,6 +3,7 @@ ghost use Rattle.running_lazy_lock.specs.Given.{IsGiven};
 
 use crate::gives::Gives;
 use boxcar::slot::SlotRule;
+use running_spin_lock::SpinPass;
 use std::marker::{Model, PhantomData};
 
 /// The closure, of which `may` is kept.
@@ -41,8 +42,8 @@ impl<T, F, G: Gives<T, F>> Init<T, F, G> {
         make
     }
 
-    /// The value that the closure gives.
-    pub(crate) fn call(self) -> T
+    /// The value that the closure gives. It is lent the pass of the closure's lock, so no guard of that stands.
+    pub(crate) fn call(self, _unlocked: &SpinPass) -> T
     where
         F: FnOnce() -> T,
         requires keeps { (f : F) → G.may f → F.IsAlwaysCallable f × ((value : T) → F.post f value → G.gives f value) }

@@ -85,7 +85,7 @@ impl<T: Drop, F: FnOnce() -> T + Drop, G: Gives<T, F>, A: Allocator> LazyLock<T,
     ghost use Rattle.running_spin_lock.specs.SpinShown.{IsSpinPass, HasLockedOnce, view};
     ghost use Rattle.running_spin_lock.specs.SpinSteps.{HasPlayedBoth};
     ghost use Rattle.model_events.specs.declared.event.Call.TheVariants as calls;
-    ghost use Rattle.running_once.specs.OnceShown.{given_by};
+    ghost use Rattle.running_model.specs.Turns.{given_by};
     ghost use Rattle.running_lazy_lock.specs.LazyShown.{IsLazyPass, IsComplete, IsWritten, HasForced, HasSeenOnce, HasPlayed, ended_of, part_of, init_in};
 
     /// What `force` does, and where this call ran the closure, what shows that its value lay there before the once's run ended.
@@ -139,7 +139,7 @@ impl<T: Drop, F: FnOnce() -> T + Drop, G: Gives<T, F>, A: Allocator> LazyLock<T,
         ensures of { result.of ≡ self.now.value.id }
         ensures made { IsGiven G.may F.post result.value }
     {
-        let value = self.take(rt, pass).call();
+        let value = self.take(rt, pass).call(pass);
         match self.value.set_written(value) {
             Ok(written) => written,
             Err(_) => never(rt),

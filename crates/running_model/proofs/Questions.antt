@@ -53,17 +53,17 @@ module _ {F X : Type 0} (g : Mut F (Bor X × (Bor ℕ × Unit {0})) WaitAction) 
     answer_of : (f : F) (v : ℕ) (action says : WaitAction) (after : F) → Good f → refuses v → action ≡ says → AskedOnce g shown f v action after → MayAnswer h wait refuses says
     answer_of f v action says after good bars is s = record { word = s.word; seen = s.seen; named = subst refuses (sym s.tells) bars; says = subst (λ a. FnReturns h wait (s.word, (s.seen, tt)) a) is (leads _ _ _ _ good s.called).1 }
 
-    ends_abort : (xs : List (ℕ × WaitAction)) (v : ℕ) (f q : F) → Asks g shown refuses v xs → refuses v → EndsInAbort xs → FoldsTo {P = F} {A = ℕ × WaitAction} (λ p x j. AskedOnce g shown p x.0 x.1 j) f xs q → Good f → MayAnswerAbort h wait refuses
+    pub ends_abort : (xs : List (ℕ × WaitAction)) (v : ℕ) (f q : F) → Asks g shown refuses v xs → refuses v → EndsInAbort xs → FoldsTo {P = F} {A = ℕ × WaitAction} (λ p x j. AskedOnce g shown p x.0 x.1 j) f xs q → Good f → MayAnswerAbort h wait refuses
     ends_abort [] v f q asks bars ends led good = absurd ends
     ends_abort (x ∷ []) v f q asks bars ends led good = answer_of f x.0 x.1 _ led.0 good (subst refuses (sym asks) bars) ends led.1
     ends_abort (x ∷ y ∷ xs) v f q asks bars ends led good = ends_abort (y ∷ xs) y.0 led.0 q asks.3 asks.2 ends led.2 (leads _ _ _ _ good led.1.called).0
 
-    first_goes_on : (xs : List (ℕ × WaitAction)) (v : ℕ) (f q : F) → Asks g shown refuses v xs → refuses v → FoldsTo {P = F} {A = ℕ × WaitAction} (λ p x j. AskedOnce g shown p x.0 x.1 j) f xs q → Good f → 2 ≤ length xs → MayAnswerContinue h wait refuses
+    pub first_goes_on : (xs : List (ℕ × WaitAction)) (v : ℕ) (f q : F) → Asks g shown refuses v xs → refuses v → FoldsTo {P = F} {A = ℕ × WaitAction} (λ p x j. AskedOnce g shown p x.0 x.1 j) f xs q → Good f → 2 ≤ length xs → MayAnswerContinue h wait refuses
     first_goes_on [] v f q asks bars led good often = absurd asks
     first_goes_on (x ∷ []) v f q asks bars led good often = absurd (two_not_one x often)
     first_goes_on (x ∷ y ∷ xs) v f q asks bars led good often = answer_of f x.0 x.1 _ led.0 good (subst refuses (sym asks.0) bars) asks.1 led.1
 
-    some_asked : (xs : List (ℕ × WaitAction)) (v : ℕ) → Asks g shown refuses v xs → 1 ≤ length xs
+    pub some_asked : (xs : List (ℕ × WaitAction)) (v : ℕ) → Asks g shown refuses v xs → 1 ≤ length xs
     some_asked [] v asks = absurd asks
     some_asked (x ∷ xs) v asks = one_at_least x xs
 
@@ -80,12 +80,11 @@ module _ {F X : Type 0} (g : Mut F (Bor X × (Bor ℕ × Unit {0})) WaitAction) 
       again = first_goes_on a.asked r.0 f after a.asks r.2 a.led good;
     }
 
--- A question whose closure is a reference to the caller's, or calls it, is one that the caller's may answer so.
-pub answered_of : {F G X : Type 0} (g : Mut F (Bor X × (Bor ℕ × Unit {0})) WaitAction) (shown : X) (h : Shared G (Bor X × (Bor ℕ × Unit {0})) WaitAction) (wait : G) (f after : F) (told : ℕ) (action says : WaitAction)
-    → ((a : Bor X × (Bor ℕ × Unit {0})) (r : WaitAction) → Called g f a r after → h.post wait a r) → action ≡ says → AskedOnce g shown f told action after → MayAnswer h wait (λ n. n ≡ told) says
-answered_of g shown h wait f after told action says gives is s = record { word = s.word; seen = s.seen; named = s.tells; says = record { met = subst (λ r. h.post wait (s.word, (s.seen, tt)) r) is (gives _ _ s.called) } }
+-- what was answered so
+pub answers_so : {F X R : Type 0} (g : Mut F (Bor X × (Bor ℕ × Unit {0})) R) (shown : X) (f after : F) (told : ℕ) (a b : R) → a ≡ b → AskedOnce g shown f told a after → AskedOnce g shown f told b after
+answers_so g shown f after told a b e h = subst (λ x. AskedOnce g shown f told x after) e h
 
--- So a wake.
+-- A wake whose closure is a reference to the caller's, or calls it, is one that the caller's promises.
 pub says_of : {F G X : Type 0} (g : Mut F (Bor X × Unit {0}) (Unit {0})) (h : Shared G (Bor X × Unit {0}) (Unit {0})) (wake : G) (f after : F) (word : X)
     → ((a : Bor X × Unit {0}) → Called g f a tt after → h.post wake a tt) → CalledAt g f word tt after → FnReturnsAt h wake word tt
 says_of g h wake f after word gives s = record { shown = s.shown; shows = s.shows; says = record { met = gives _ s.called } }

@@ -11,15 +11,15 @@ EndsInAbort [] = ⊥
 EndsInAbort (x ∷ []) = x.1 ≡ WaitAction.Abort
 EndsInAbort (x ∷ y ∷ xs) = EndsInAbort (y ∷ xs)
 
-module _ {F X : Type 0} (g : Mut F (Bor X × (Bor ℕ × Unit {0})) WaitAction) (shown : X) where
-  -- one call of it, of this word, was told this, answered so, and led it from f to after
-  pub record AskedOnce (f : F) (told : ℕ) (action : WaitAction) (after : F) : Type 0 where
-    pub word : Bor X
-    pub seen : Bor ℕ
-    pub shows : word.now ≡ shown
-    pub tells : seen.now ≡ told
-    pub called : Called g f (word, (seen, tt)) action after
+-- one call of it, of this word, was told this, answered so, and led it from f to after
+pub record AskedOnce {F X R : Type 0} (g : Mut F (Bor X × (Bor ℕ × Unit {0})) R) (shown : X) (f : F) (told : ℕ) (answer : R) (after : F) : Type 0 where
+  pub word : Bor X
+  pub seen : Bor ℕ
+  pub shows : word.now ≡ shown
+  pub tells : seen.now ≡ told
+  pub called : Called g f (word, (seen, tt)) answer after
 
+module _ {F X : Type 0} (g : Mut F (Bor X × (Bor ℕ × Unit {0})) WaitAction) (shown : X) where
   module _ (refuses : ℕ → Type 0) where
     -- The first was told this, each other a value that refused; each but the last was answered Continue.
     abbrev pub Asks : ℕ → List (ℕ × WaitAction) → Type 0
@@ -34,7 +34,7 @@ module _ {F X : Type 0} (g : Mut F (Bor X × (Bor ℕ × Unit {0})) WaitAction) 
       pub asks : Asks told asked
       pub ends : granted ≡ false → EndsInAbort asked
       pub looks : granted ≡ false → once → now ≡ before + length asked
-      pub led : FoldsTo {P = F} {A = ℕ × WaitAction} (λ p x q. AskedOnce p x.0 x.1 q) f asked after
+      pub led : FoldsTo {P = F} {A = ℕ × WaitAction} (λ p x q. AskedOnce g shown p x.0 x.1 q) f asked after
 
     -- so a call that had looked so often by itself before; one that was granted then asked nothing
     abbrev pub AskedAfter : ℕ → F → F → Bool → Type 0 → ℕ → ℕ → Type 0

@@ -1,6 +1,6 @@
 -- A call that tries again until it is granted or gives up.
 use Rattle.std.specs.Prelude.{◌≡◌, ℕ, true, List, Option, None}
-use Rattle.running_model.specs.Names.{Bor, Shared, FnReturns, Word, Wake, Call, Answer, Then, HoldKind, Patience, Intent, within, refused}
+use Rattle.running_model.specs.Names.{Word, Wake, Call, Answer, Then, HoldKind, Patience, Intent, within, refused}
 use Rattle.running_model.specs.Models.{Model}
 use Rattle.running_model.specs.Slots.{Slot, Parties}
 use Rattle.running_model.specs.Words.{IsNamed}
@@ -46,13 +46,6 @@ module _ {V P : Type 0} (m : Model V P) (call : Call V) (place : Patience → P)
   OnceStanding told p Then = (done : List (Slot V)) → IsStanding told done p → Then done
 
 -- Closures.
-
--- What a wait closure that answers nothing promises of a call holds, of some word that was seen to be this.
-pub record HasTold {F W : Type 0} (g : Shared F (Bor W × (Bor ℕ × Unit {0})) (Unit {0})) (wait : F) (told : ℕ) : Type 0 where
-  pub word : Bor W
-  pub seen : Bor ℕ
-  pub named : seen.now ≡ told
-  pub says : FnReturns g wait (word, (seen, tt)) tt
 
 -- the next that a call of the pass does is to end its closure
 pub record IsToEnd {V P : Type 0} (m : Model V P) (p : Parties V) : Type 0 where

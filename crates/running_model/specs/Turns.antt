@@ -2,6 +2,7 @@
 use Rattle.std.specs.Prelude.{◌≡◌, ℕ, List, Option, None}
 use Rattle.running_model.specs.Names.{MutBor, View, WaitAction, Word, Wake, Call, Answer, Then, HoldKind, Intent, After}
 use Rattle.atomic_table.specs.declared.shared.Seat.{Seat}
+use Rattle.running_model.specs.declared.calling.Ran.{Ran}
 use Rattle.running_model.specs.declared.turn.Answered.{Answered}
 use Rattle.running_model.specs.declared.seat.SeatAnswered.{SeatAnswered}
 use Rattle.running_model.specs.Models.{Model}
@@ -17,6 +18,10 @@ action_in (Answered.Abort turn) = WaitAction.Abort
 abbrev pub pass_in : {T : Type 0} → Answered T → MutBor T
 pass_in (Answered.Continue turn) = turn.pass
 pass_in (Answered.Abort turn) = turn.pass
+
+-- what a closure gave that was run
+abbrev pub given_by : {Y : Type 0} → Ran Y → Y
+given_by ran = ran.given
 
 -- the same of a call whose pass is out with its seat
 abbrev pub action_heard : {S T : Type 0} → SeatAnswered S T → WaitAction

@@ -2,11 +2,10 @@
 ghost use Rattle.std.specs.Prelude.{◌≡◌};
 ghost use Rattle.std.specs.Fn.{FnOnceTakesAtMut, FnOnceReturnsAtMut, CalledAt};
 ghost use Rattle.running_model.specs.Asked.{AskedOnce};
-ghost use Rattle.running_passes.specs.Answers.{MayAnswer};
 ghost use Rattle.running_model.specs.Passes.{parties_of};
 ghost use Rattle.running_model.specs.Stages.{IsPassOf, id_of, key_of};
-ghost use Rattle.running_model.specs.Tries.{IsToEnd, IsToWake, StandsToWait, HasTold};
-ghost use Rattle.running_model.specs.Turns.{IsToWakeAgain, IsOver, IsOverAside, IsOverAfterTwo, action_in, pass_in};
+ghost use Rattle.running_model.specs.Tries.{IsToEnd, IsToWake, StandsToWait};
+ghost use Rattle.running_model.specs.Turns.{IsToWakeAgain, IsOver, IsOverAside, IsOverAfterTwo, action_in, given_by, pass_in};
 
 use crate::counts::Counts;
 use crate::played::Played;
@@ -19,60 +18,78 @@ use running_passes::Pass;
 use std::alloc::Allocator;
 use std::marker::PhantomData;
 
-impl<'p, M, P, V, C> Turn<'p, Pass<Played<M, P, V, C>>, Goes> {
-    /// Calls a wait closure that answers whether the call may give up, at which the call stands. It is handed the word that the model
-    /// names for that place, and told what the model tells it there.
+/// What a closure gave that a call ran where it stood to end it. Nothing but `run` makes one.
+#[derive(Drop)]
+pub struct Ran<Y> {
+    given: Y,
+}
+
+impl<Y> Ran<Y> {
+    /// What the closure gave.
     #[inline(always)]
-    pub fn ask<K, A: Allocator, X: Shown, W: Fn(&X, &u64) -> WaitAction>(
+    pub fn given(&self) -> &Y
+        ensures { result.now ≡ given_by self.now }
+    {
+        &self.given
+    }
+}
+
+impl<'p, M, P, V, C> Turn<'p, Pass<Played<M, P, V, C>>, Goes> {
+    /// Calls a wait closure that answers whether the call may give up, at which the call stands: once, of the word that the model names
+    /// for that place, and told what the model tells it there. Gives the closure back.
+    #[inline(always)]
+    pub fn ask<K, A: Allocator, X: Shown, W: FnMut(&X, &u64) -> WaitAction>(
         self,
         at: &Stage<K, M, P, V, C, A>,
         word: &Sealed<X>,
         told: u64,
-        wait: &W,
-    ) -> Answered<'p, Pass<Played<M, P, V, C>>>
+        wait: W,
+    ) -> (Answered<'p, Pass<Played<M, P, V, C>>>, W)
     where
         M: Script<K, P, V>,
         C: Counts<K, V>,
         requires own { IsPassOf at.now self.pass.now }
         requires word { X.object word.now.shown ≡ id_of at.now }
         requires stands { StandsToWait (M.model (key_of at.now)) M.names M.handed (X.index word.now.shown) told (parties_of self.pass.now) }
-        requires may { W.IsAlwaysCallable wait.now }
-        ensures same_borrow { (pass_in result).ghost_name ≡ self.entry.pass.ghost_name }
-        ensures still { (pass_in result).now ≡ self.entry.pass.now }
-        ensures answered { MayAnswer W.Fn wait.now (λ n. n ≡ told) (action_in result) }
+        requires may { W.IsAlwaysCallable wait }
+        ensures same_borrow { (pass_in result.0).ghost_name ≡ self.entry.pass.ghost_name }
+        ensures still { (pass_in result.0).now ≡ self.entry.pass.now }
+        ensures may_again { W.IsAlwaysCallable result.1 }
+        ensures asked { AskedOnce W.FnMut word.now.shown wait told (action_in result.0) result.1 }
     {
         let _at = at;
         hear(self, &word.shown, told, wait)
     }
 
-    /// Calls a wait closure that answers nothing, at which the call stands. It is handed the word that the model names for that place, and
-    /// told what the model tells it there.
+    /// The same of a wait closure that answers nothing.
     #[inline(always)]
-    pub fn tell<K, A: Allocator, X: Shown, W: Fn(&X, &u64)>(
+    pub fn tell<K, A: Allocator, X: Shown, W: FnMut(&X, &u64)>(
         self,
         at: &Stage<K, M, P, V, C, A>,
         word: &Sealed<X>,
         told: u64,
-        wait: &W,
-    ) -> Turn<'p, Pass<Played<M, P, V, C>>, Continued>
+        wait: W,
+    ) -> (Turn<'p, Pass<Played<M, P, V, C>>, Continued>, W)
     where
         M: Script<K, P, V>,
         C: Counts<K, V>,
         requires own { IsPassOf at.now self.pass.now }
         requires word { X.object word.now.shown ≡ id_of at.now }
         requires stands { StandsToWait (M.model (key_of at.now)) M.names M.handed (X.index word.now.shown) told (parties_of self.pass.now) }
-        requires may { W.IsAlwaysCallable wait.now }
-        ensures same_borrow { result.pass.ghost_name ≡ self.entry.pass.ghost_name }
-        ensures still { result.pass.now ≡ self.entry.pass.now }
-        ensures told { HasTold W.Fn wait.now told }
+        requires may { W.IsAlwaysCallable wait }
+        ensures same_borrow { result.0.pass.ghost_name ≡ self.entry.pass.ghost_name }
+        ensures still { result.0.pass.now ≡ self.entry.pass.now }
+        ensures may_again { W.IsAlwaysCallable result.1 }
+        ensures told { AskedOnce W.FnMut word.now.shown wait told tt result.1 }
     {
         let _at = at;
         let Turn { pass, by: _ } = self;
-        wait(&word.shown, &told);
-        Turn {
+        let ((), asked) = answer(&word.shown, told, wait);
+        let next = Turn {
             pass,
             by: PhantomData,
-        }
+        };
+        (next, asked)
     }
 
     /// Calls the wake closure that the call is to call next, once, of the word that the model names for that place. Gives the closure back.
@@ -104,14 +121,14 @@ impl<'p, M, P, V, C> Turn<'p, Pass<Played<M, P, V, C>>, Goes> {
         (next, woken)
     }
 
-    /// Calls the closure that the call is to end next, which is lent `on`, and answers what it gave.
+    /// Calls the closure that the call is to end next, which is lent `on`.
     #[inline(always)]
     pub fn run<K, A: Allocator, X, Y, F: FnOnce(&mut X) -> Y>(
         self,
         at: &Stage<K, M, P, V, C, A>,
         on: &mut X,
         f: F,
-    ) -> (Y, Turn<'p, Pass<Played<M, P, V, C>>, AfterAside>)
+    ) -> (Ran<Y>, Turn<'p, Pass<Played<M, P, V, C>>, AfterAside>)
     where
         M: Script<K, P, V>,
         C: Counts<K, V>,
@@ -120,16 +137,16 @@ impl<'p, M, P, V, C> Turn<'p, Pass<Played<M, P, V, C>>, Goes> {
         requires may { FnOnceTakesAtMut F.FnOnce f on.old }
         ensures same_borrow { result.1.pass.ghost_name ≡ self.entry.pass.ghost_name }
         ensures still { result.1.pass.now ≡ self.entry.pass.now }
-        ensures gave { FnOnceReturnsAtMut F.FnOnce f on.old result.0 on.new }
+        ensures gave { FnOnceReturnsAtMut F.FnOnce f on.old (given_by result.0) on.new }
     {
         let _at = at;
         let Turn { pass, by: _ } = self;
-        let gave = f(on);
+        let given = f(on);
         let next = Turn {
             pass,
             by: PhantomData,
         };
-        (gave, next)
+        (Ran { given }, next)
     }
 
     /// The call has been answered. Gives the pass back.
@@ -237,11 +254,7 @@ pub(crate) fn call<X, W: FnMut(&X)>(wake: W, word: &X) -> W
 
 /// Calls a wait closure, once, of this word, and says what it has answered. Gives it back.
 #[inline(always)]
-pub(crate) fn answer<X, W: FnMut(&X, &u64) -> WaitAction>(
-    word: &X,
-    told: u64,
-    wait: W,
-) -> (WaitAction, W)
+pub(crate) fn answer<X, R, W: FnMut(&X, &u64) -> R>(word: &X, told: u64, wait: W) -> (R, W)
     requires may { W.IsAlwaysCallable wait }
     ensures may_again { W.IsAlwaysCallable result.1 }
     ensures asked { AskedOnce W.FnMut word.now wait told result.0 result.1 }

@@ -2,7 +2,7 @@
 ghost use Rattle.std.specs.Prelude.{◌≡◌, ◌<◌};
 ghost use Rattle.std.specs.Fn.{CalledAt};
 ghost use Rattle.model_events.specs.declared.row.Intent.TheVariants as intents;
-ghost use Rattle.running_passes.specs.Answers.{MayAnswer};
+ghost use Rattle.running_model.specs.Asked.{AskedOnce};
 ghost use Rattle.running_model.specs.Passes.{HasNeeds, SteppedByAct};
 ghost use Rattle.running_model.specs.Plays.{MayStep};
 ghost use Rattle.running_model.specs.Tries.{IsToWake, StandsToWait};
@@ -170,34 +170,41 @@ impl<S, M, P, V, C, W> SeatTurn<S, Played<M, P, V, C>, W> {
 }
 
 impl<S, M, P, V, C> SeatTurn<S, Played<M, P, V, C>, Goes> {
-    /// Calls a wait closure that answers whether the call may give up, at which the call stands. It is handed the word that the model
-    /// names for that place, and told what the model tells it there.
+    /// Calls a wait closure that answers whether the call may give up, at which the call stands: once, of the word that the model names
+    /// for that place, and told what the model tells it there. Gives the closure back.
     #[inline(always)]
-    pub fn ask<X: Shown, W: Fn(&X, &u64) -> WaitAction>(
+    pub fn ask<X: Shown, W: FnMut(&X, &u64) -> WaitAction>(
         self,
         word: &Sealed<X>,
         told: u64,
-        wait: &W,
-    ) -> SeatAnswered<S, Played<M, P, V, C>>
+        wait: W,
+    ) -> (SeatAnswered<S, Played<M, P, V, C>>, W)
     where
         M: Script<(), P, V>,
         requires word { X.object word.now.shown ≡ self.seat.table_id }
         requires stands { StandsToWait (M.model tt) M.names M.handed (X.index word.now.shown) told self.seat.me.0.tally.parties }
-        requires may { W.IsAlwaysCallable wait.now }
-        ensures still { seat_in result ≡ self.seat }
-        ensures answered { MayAnswer W.Fn wait.now (λ n. n ≡ told) (action_heard result) }
+        requires may { W.IsAlwaysCallable wait }
+        ensures still { seat_in result.0 ≡ self.seat }
+        ensures may_again { W.IsAlwaysCallable result.1 }
+        ensures asked { AskedOnce W.FnMut word.now.shown wait told (action_heard result.0) result.1 }
     {
         let SeatTurn { seat, by: _ } = self;
-        let (action, _asked) = answer(&word.shown, told, wait);
+        let (action, asked) = answer(&word.shown, told, wait);
         match action {
-            WaitAction::Continue => SeatAnswered::Continue(SeatTurn {
-                seat,
-                by: PhantomData,
-            }),
-            WaitAction::Abort => SeatAnswered::Abort(SeatTurn {
-                seat,
-                by: PhantomData,
-            }),
+            WaitAction::Continue => (
+                SeatAnswered::Continue(SeatTurn {
+                    seat,
+                    by: PhantomData,
+                }),
+                asked,
+            ),
+            WaitAction::Abort => (
+                SeatAnswered::Abort(SeatTurn {
+                    seat,
+                    by: PhantomData,
+                }),
+                asked,
+            ),
         }
     }
 

@@ -17,15 +17,13 @@ ghost use Rattle.running_model.specs.Turns.{action_in, pass_in};
 ghost use Rattle.running_model.specs.Asked.{AskedOnce, Asked, AskedAfter};
 ghost use Rattle.running_model.specs.Tries.{spun, MayTry, Tried, IsRefused, IsStanding, IsGranted, HasGivenUp, OnceRefused, OnceStanding, StandsToWait};
 
-use crate::calling::answer;
 use crate::pauses::pause_before;
 use crate::played::Played;
 use crate::script::Script;
-use crate::turn::{Aborted, Answered, Continued, Goes, Turn, Way};
+use crate::turn::{Aborted, Answered, Continued, Goes, Turn, Way, hear};
 use crate::wait::{Sealed, Shown};
 use model_events::{SPIN_REPETITIONS, WaitAction};
 use running_passes::Pass;
-use std::marker::PhantomData;
 use std::sync::Wait;
 
 /// One try of a call that may be refused. Where it is, its model spins, stands at its wait closure or gives up, as its patience says.
@@ -141,24 +139,7 @@ fn ask<
     ensures asked { AskedOnce W.FnMut word.now.shown wait told (action_in result.0) result.1 }
 {
     let _by = by;
-    let Turn { pass, by: _ } = turn;
-    let (action, asked) = answer(&word.shown, told, wait);
-    match action {
-        WaitAction::Continue => (
-            Answered::Continue(Turn {
-                pass,
-                by: PhantomData,
-            }),
-            asked,
-        ),
-        WaitAction::Abort => (
-            Answered::Abort(Turn {
-                pass,
-                by: PhantomData,
-            }),
-            asked,
-        ),
-    }
+    hear(turn, &word.shown, told, wait)
 }
 
 /// The wait closure before each further try, until one is not refused, or is refused after the closure answered `Abort`. The closure

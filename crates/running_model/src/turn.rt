@@ -1,8 +1,9 @@
 //! A call under way, and how its pass comes to the next step.
 ghost use Rattle.std.specs.Prelude.{◌≡◌};
-ghost use Rattle.running_passes.specs.Answers.{MayAnswer};
+ghost use Rattle.running_model.specs.Asked.{AskedOnce};
 ghost use Rattle.running_model.specs.Turns.{action_in, pass_in};
 
+pub use crate::calling::Ran;
 use crate::calling::answer;
 pub use crate::choosing::{Choice, Chooses, Chosen, Nothing, TurnWith};
 pub use crate::tries::{Attempt, try_again, try_again_by};
@@ -129,29 +130,36 @@ pub enum Answered<'p, T> {
     Abort(Turn<'p, T, Aborted>),
 }
 
-/// Calls a wait closure.
+/// Calls a wait closure, once, of this word, and gives it back.
 #[inline(always)]
-pub(crate) fn hear<'p, T, X, W: Fn(&X, &u64) -> WaitAction>(
+pub(crate) fn hear<'p, T, X, W: FnMut(&X, &u64) -> WaitAction>(
     turn: Turn<'p, T, Goes>,
     word: &X,
     told: u64,
-    wait: &W,
-) -> Answered<'p, T>
-    requires may { W.IsAlwaysCallable wait.now }
-    ensures same_borrow { (pass_in result).ghost_name ≡ turn.entry.pass.ghost_name }
-    ensures still { (pass_in result).now ≡ turn.entry.pass.now }
-    ensures answered { MayAnswer W.Fn wait.now (λ n. n ≡ told) (action_in result) }
+    wait: W,
+) -> (Answered<'p, T>, W)
+    requires may { W.IsAlwaysCallable wait }
+    ensures same_borrow { (pass_in result.0).ghost_name ≡ turn.entry.pass.ghost_name }
+    ensures still { (pass_in result.0).now ≡ turn.entry.pass.now }
+    ensures may_again { W.IsAlwaysCallable result.1 }
+    ensures asked { AskedOnce W.FnMut word.now wait told (action_in result.0) result.1 }
 {
     let Turn { pass, by: _ } = turn;
-    let (action, _asked) = answer(word, told, wait);
+    let (action, asked) = answer(word, told, wait);
     match action {
-        WaitAction::Continue => Answered::Continue(Turn {
-            pass,
-            by: PhantomData,
-        }),
-        WaitAction::Abort => Answered::Abort(Turn {
-            pass,
-            by: PhantomData,
-        }),
+        WaitAction::Continue => (
+            Answered::Continue(Turn {
+                pass,
+                by: PhantomData,
+            }),
+            asked,
+        ),
+        WaitAction::Abort => (
+            Answered::Abort(Turn {
+                pass,
+                by: PhantomData,
+            }),
+            asked,
+        ),
     }
 }

@@ -4,7 +4,6 @@ use Rattle.running_once.specs.Names.{Call, Answer, OncePlace, View, IsSamePass, 
 use Rattle.running_once.specs.Once.{once_model, learns, began, ended}
 use Rattle.running_once.specs.declared.Once.{Once}
 use Rattle.running_once.specs.declared.OncePass.{OncePass}
-use Rattle.running_once.specs.declared.Ran.{Ran}
 
 -- the pass inside
 abbrev pub PlayedPass : Type 0
@@ -15,10 +14,6 @@ pass_in p = p.pass
 
 abbrev pub IsOncePass : {A : Type 0} → Once A → OncePass → Type 0
 IsOncePass o p = IsPassOf o.stage (pass_in p)
-
--- what the closure gave that was run
-abbrev pub given_by : {Y : Type 0} → Ran Y → Y
-given_by ran = ran.given
 
 -- what the pass knows
 abbrev pub known_by : OncePass → View Runs

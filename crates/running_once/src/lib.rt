@@ -14,6 +14,7 @@ mod shares;
 
 use model_once::{OncePlace, begun};
 use running_model::calls::{CallOnceCall, IsCompletedCall};
+pub use running_model::turn::Ran;
 use running_model::turn::{Called, Goes, Turn, Way, begin_new};
 use running_model::{Counts, CountsByActs, Played, Script, Stage};
 use running_passes::{Pass, Rule, Tally};
@@ -117,23 +118,6 @@ pub struct OncePass {
     ghost settled: { (counts_of pass).running ≡ 0 },
 }
 
-/// What a closure gave that a once ran, between its begin and its end. Only a run makes one.
-#[derive(Drop)]
-pub struct Ran<Y> {
-    given: Y,
-}
-
-impl<Y> Ran<Y> {
-    ghost use Rattle.running_once.specs.OnceShown.{given_by};
-
-    /// What the closure gave.
-    pub fn given(&self) -> &Y
-        ensures { result.now ≡ given_by self.now }
-    {
-        &self.given
-    }
-}
-
 impl OncePass {
     ghost use Rattle.std.specs.Prelude.{true, is_ok};
     ghost use Rattle.running_passes.specs.declared.part.Part.{Part};
@@ -201,8 +185,9 @@ impl<A: Allocator> Once<A> {
     ghost use Rattle.running_model.specs.Passes.{parties_of, counted};
     ghost use Rattle.running_model.specs.Counts.{HasDone};
     ghost use Rattle.running_model.specs.Stages.{IsPassOf};
+    ghost use Rattle.running_model.specs.Turns.{given_by};
     ghost use Rattle.running_once.specs.OnceParties.{ComesToBegin, IsRunning, ComesToStay, HasLeft, WhereBegins, WhereRuns, WhereStays};
-    ghost use Rattle.running_once.specs.OnceShown.{CompletesWithin, SeesOnceWithin, IsOncePass, IsComplete, HasSeenOnce, HasCompleted, HasBegun, HasOnlyWaited, HasPlayed, IsTaken, given_by, known_by, parties_of_once, part_of_once, sights_of_once, ended_of};
+    ghost use Rattle.running_once.specs.OnceShown.{CompletesWithin, SeesOnceWithin, IsOncePass, IsComplete, HasSeenOnce, HasCompleted, HasBegun, HasOnlyWaited, HasPlayed, IsTaken, known_by, parties_of_once, part_of_once, sights_of_once, ended_of};
 
     /// A once whose closure has not run, and the pass that is whole. `Err` where there was no memory; then nothing was made.
     pub fn new(alloc: A) -> Result<(Once<A>, OncePass), AllocError>
@@ -259,10 +244,7 @@ impl<A: Allocator> Once<A> {
         ensures exact { IsWhole (part_of_once pass.old) → ended_of pass.new ≡ 1 }
         ensures played { HasPlayed calls.CallOnce answers.Done pass.old pass.new }
     {
-        match self.run_or_wait(rt, &mut pass.pass, on, f) {
-            Some(given) => Some(Ran { given }),
-            None => None,
-        }
+        self.run_or_wait(rt, &mut pass.pass, on, f)
     }
 
     /// Whether a closure has ended: one load.
@@ -287,13 +269,13 @@ impl<A: Allocator> Once<A> {
         pass: &mut Pass<PlayedOnce>,
         on: &mut X,
         f: F,
-    ) -> Option<Y>
+    ) -> Option<Ran<Y>>
         requires own { IsPassOf self.now.stage pass.old }
         requires settled { (counts_of pass.old).running ≡ 0 }
         requires may { FnOnceTakesAtMut F.FnOnce f on.old }
         ensures settled { (counts_of pass.new).running ≡ 0 }
         ensures completed { CompletesWithin pass.old pass.new }
-        ensures ran { IfSome result (λ given. FnOnceReturnsAtMut F.FnOnce f on.old given on.new) }
+        ensures ran { IfSome result (λ ran. FnOnceReturnsAtMut F.FnOnce f on.old (given_by ran) on.new) }
         ensures counted { IfSome result (λ _. (counts_of pass.old).ended < (counts_of pass.new).ended) }
         ensures let_go { IfNone result (((counts_of pass.new).ended ≡ (counts_of pass.old).ended) × (on.new ≡ on.old)) }
         ensures kept { (counts_of pass.old).complete ≡ true → SeesOnceWithin pass.old pass.new }
@@ -307,9 +289,9 @@ impl<A: Allocator> Once<A> {
         }
         let (is_first, tried) = self.begin(turn);
         if is_first {
-            let (given, done) = self.run(tried, on, f);
+            let (ran, done) = self.run(tried, on, f);
             let _pass = done.end(&self.stage);
-            return Some(given);
+            return Some(ran);
         }
         let left = self.stay(rt, tried);
         let _pass = left.end(&self.stage);
@@ -407,26 +389,26 @@ impl<A: Allocator> Once<A> {
         (found == 0, next)
     }
 
-    /// Runs the closure that has begun, and then stores 2. What it gave.
+    /// Runs the closure that has begun, and then stores 2.
     #[inline(always)]
     fn run<'p, X, Y, F: FnOnce(&mut X) -> Y>(
         &self,
         turn: Turn<'p, Pass<PlayedOnce>, Goes>,
         on: &mut X,
         f: F,
-    ) -> (Y, Turn<'p, Pass<PlayedOnce>, Goes>)
+    ) -> (Ran<Y>, Turn<'p, Pass<PlayedOnce>, Goes>)
         requires own { IsPassOf self.now.stage turn.pass.now }
         requires on { (counts_of turn.pass.now).running ≡ 1 }
         requires runs { (done : List (Slot ℕ)) × IsRunning done (parties_of turn.pass.now) }
         requires may { FnOnceTakesAtMut F.FnOnce f on.old }
         ensures same_borrow { result.1.pass.ghost_name ≡ turn.entry.pass.ghost_name }
-        ensures ran { FnOnceReturnsAtMut F.FnOnce f on.old result.0 on.new }
+        ensures ran { FnOnceReturnsAtMut F.FnOnce f on.old (given_by result.0) on.new }
         ensures ended { HasDone ended turn.entry.pass.now result.1.pass.now }
         ensures left { WhereRuns (parties_of turn.entry.pass.now) (λ done. HasLeft done (parties_of result.1.pass.now)) }
     {
-        let (given, over) = turn.run(&self.stage, on, f);
+        let (ran, over) = turn.run(&self.stage, on, f);
         let done = over.store(&self.stage, 0, COMPLETE);
-        (given, done)
+        (ran, done)
     }
 }
 

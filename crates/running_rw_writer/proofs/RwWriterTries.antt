@@ -1,5 +1,9 @@
 -- What a writer's sights and tries come to, one after another.
-use Rattle.running_rw_writer.proofs.Names.{is_some, MatchBool, Sights, Pass, IsSamePass, sights_of, seen, counts_of, counted, wrote, flagged, ◌≡◌, ◌≢◌, ℕ, ◌+◌, ◌-◌, ◌%◌, ◌^◌, ◌<◌, not, Bool, true, Option, Some, None, ◌≤◌, arith, eqb-true, eqb-false, nat_tests, HasTried, HasJustSeen, HasMissedIt, MayGiveUp, HasGivenUpWriting, HasEnteredSeenFree, PlayedRwWriter, IsMarked, IsSeenByWriter, Missed, WriterIn, HasPlayedGivingUp, inl, inr}
+use Rattle.std.specs.Borrow.{Bor}
+use Rattle.std.specs.Fn.{Mut}
+use Rattle.running_model.specs.Asked.{AskedOnce}
+use Rattle.running_model.proofs.Questions.{one, more}
+use Rattle.running_rw_writer.proofs.Names.{WaitAction, AskedCount, AskedCounts, ◌⊎◌, refl, sym, subst, ◌∙◌, true≢false, is_some, MatchBool, Sights, Pass, IsSamePass, sights_of, seen, counts_of, counted, wrote, flagged, ◌≡◌, ◌≢◌, ℕ, ◌+◌, ◌-◌, ◌%◌, ◌^◌, ◌<◌, not, Bool, true, Option, Some, None, ◌≤◌, arith, eqb-true, eqb-false, nat_tests, HasTried, HasJustSeen, HasMissedIt, MayGiveUp, HasGivenUpWriting, HasEnteredSeenFree, PlayedRwWriter, IsMarked, IsSeenByWriter, Missed, WriterIn, HasPlayedGivingUp, inl, inr}
 
 -- what a function of the lock's model says of a word, by whether it answers another word
 
@@ -73,3 +77,13 @@ ends_after m n p q r entered h1 h2 = grind (arith, nat_tests, eqb-true, eqb-fals
 
 pub tries_after : (m n : ℕ) (p q r : Pass PlayedRwWriter) (entered : Bool) → HasTried m p q → MatchBool entered (HasEnteredSeenFree q r) (HasTried n q r) → MatchBool entered (HasEnteredSeenFree p r) (HasTried (m + n) p r)
 tries_after m n p q r entered h1 h2 = grind (arith, nat_tests, eqb-true, eqb-false)
+
+-- Its questions: one before others, or none, and the last.
+module _ {F X : Type 0} (g : Mut F (Bor X × (Bor ℕ × Unit {0})) WaitAction) (shown : X) where
+  pub asked_on : (f j q : F) (entered : Bool) → (f ≡ j) ⊎ AskedCount g shown f WaitAction.Continue j → AskedCounts g shown j q entered → AskedCounts g shown f q entered
+  asked_on f j q entered (inl same) rest = subst (λ x. AskedCounts g shown x q entered) (sym same) rest
+  asked_on f j q entered (inr once) (inl none) = inr (once.0, 0, once.1, (λ o. absurd o), one g shown (λ n. n < 2 ^ 64) once.0 _ f q entered ⊥ 0 0 (λ e. absurd (true≢false (sym none.0 ∙ e))) (λ _ o. absurd o) (subst (λ x. AskedOnce g shown f once.0 WaitAction.Continue x) none.1 once.2))
+  asked_on f j q entered (inr once) (inr rest) = inr (once.0, 0, once.1, (λ o. absurd o), more g shown (λ n. n < 2 ^ 64) once.0 rest.0 _ f j q entered ⊥ 0 rest.1 0 refl rest.2 (λ o. absurd o) once.2 rest.4)
+
+  pub asked_last : (f q : F) (entered : Bool) → AskedCount g shown f WaitAction.Abort q → AskedCounts g shown f q entered
+  asked_last f q entered once = inr (once.0, 0, once.1, (λ o. absurd o), one g shown (λ n. n < 2 ^ 64) once.0 _ f q entered ⊥ 0 0 (λ _. refl) (λ _ o. absurd o) once.2)

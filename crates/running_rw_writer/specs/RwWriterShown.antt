@@ -1,11 +1,12 @@
 -- What contracts see of a writer-preferring lock and its pass, and what a call changes in a pass.
-use Rattle.std.specs.Prelude.{◌≡◌, ◌≢◌, true, false, ◌⊎◌, ℕ, Option, ◌+◌, ◌-◌, ◌*◌, ◌%◌, ◌^◌, ◌<◌, ◌≤◌}
+use Rattle.std.specs.Prelude.{◌≡◌, ◌≢◌, true, false, ◌⊎◌, ℕ, Bool, Option, ◌+◌, ◌-◌, ◌*◌, ◌%◌, ◌^◌, ◌<◌, ◌≤◌}
 use Rattle.running_rw_writer.specs.Names.{Part, Sights, View, Pass, IsWhole, IsSamePass, view, part_of, sights_of, looked, missed, wrote, HasCalled, all_of, parties_of, tally_of, counted, HasOnlySeen, HasMoved, Call, Answer, HoldKind, rw_writer_model, Ghosts, RwHold, MarkedHolds, read_holds, write_holds, read, no_more_read, written, no_more_written, flagged}
 use Rattle.atomic_table.specs.Seated.{TableId}
-use Rattle.running_model.specs.Asked.{HasWokenOf}
+use Rattle.running_model.specs.Asked.{HasWokenOf, AskedOnce, AskedAfter}
 use Rattle.running_model.specs.Stages.{IsPassOf, id_of}
 use Rattle.std.specs.Borrow.{Bor}
-use Rattle.std.specs.Fn.{Shared}
+use Rattle.std.specs.Fn.{Shared, Mut}
+use Rattle.model_events.specs.declared.WaitAction.{WaitAction}
 use Rattle.running_rw_writer.specs.declared.RwLockWriterPreference.{RwLockWriterPreference}
 use Rattle.running_rw_writer.specs.declared.pass.RwWriterPass.{RwWriterPass}
 use Rattle.running_rw_hold.specs.RwShown.{IsReadHold, IsWriteHold, kind_of, pass_of, TurnsAway}
@@ -31,6 +32,16 @@ module _ {X A S F : Type 0} where
   -- so, and what the one that wakes all readers promises, of the lock's word
   abbrev pub HasWokenBoth : {G : Type 0} → Shared F (Bor X × Unit {0}) (Unit {0}) → Shared G (Bor X × Unit {0}) (Unit {0}) → (X → TableId) → (X → ℕ) → RwLockWriterPreference A S → F → G → Type 0
   HasWokenBoth g h object index l one all = HasWokenOne g object index l one × HasWokenOf h (λ word. IsItsWord 0 l (object word) (index word)) all
+
+module _ {F X : Type 0} (g : Mut F (Bor X × (Bor ℕ × Unit {0})) WaitAction) (shown : X) where
+  -- one call of the wait closure, of this word, was told a count, answered so, and led it from f to after
+  abbrev pub AskedCount : F → WaitAction → F → Type 0
+  AskedCount f action after = (count : ℕ) × (count < 2 ^ 64) × AskedOnce g shown f count action after
+
+  -- It entered unasked; or these calls, and no other, led it from f to after, each but the last answered Continue, and the last of a call
+  -- that gave up Abort.
+  abbrev pub AskedCounts : F → F → Bool → Type 0
+  AskedCounts f after entered = AskedAfter g shown (λ n. n < 2 ^ 64) 0 f after entered ⊥ 0 0
 
 -- what the pass knows
 abbrev pub known_by : RwWriterPass → View PlayedRwWriter

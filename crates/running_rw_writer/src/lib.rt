@@ -232,7 +232,7 @@ impl<A: Allocator, S> RwLockWriterPreference<A, S> {
             rt,
             &this.counter(),
             &this.word(),
-            &wait,
+            wait,
             &wake_one,
             &wake_all,
         ) {

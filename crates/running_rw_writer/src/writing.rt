@@ -12,7 +12,8 @@ use std::alloc::Allocator;
 use std::sync::Wait;
 
 impl<A: Allocator, S> RwLockWriterPreference<A, S> {
-    ghost use Rattle.std.specs.Prelude.{true, false, ◌^◌, ◌<◌, MatchBool, IfOk, IfErr, is_ok, ℕ, List, Some, None};
+    ghost use Rattle.std.specs.Prelude.{true, false, ◌^◌, ◌<◌, MatchBool, IfOk, IfErr, is_ok, ℕ, List, Some, None, ◌⊎◌};
+    ghost use Rattle.model_events.specs.declared.WaitAction.TheVariants as actions;
     ghost use Rattle.model_events.specs.declared.event.Call.TheVariants as calls;
     ghost use Rattle.model_events.specs.declared.event.Answer.TheVariants as answers;
     ghost use Rattle.model_events.specs.declared.hold.HoldKind.TheVariants as kinds;
@@ -30,7 +31,7 @@ impl<A: Allocator, S> RwLockWriterPreference<A, S> {
     ghost use Rattle.running_model.specs.Stages.{IsPassOf};
     ghost use Rattle.running_rw_writer.specs.RwWriterParties.{has_hold, TableLed, GoesFromTo, OnceWriting, WriteGoes, WriteIsGranted, WriteGivesUp, ComesToWrite, ComesToGiveUp, Unlocks};
     ghost use Rattle.running_rw_writer.specs.RwWriterSteps.{IsMarked, WriterIn};
-    ghost use Rattle.running_rw_writer.specs.RwWriterShown.{IsRwWriterPass, IsItsWord, HasWokenBoth, IsAloneWithin, pass_in, writes_of, flags_of, HasEnteredToWrite, HasEnteredSeenFree, HasWrittenAtOnce, HasSeenTaken, HasTried, HasJustSeen, MayGiveUp, HasGivenUpWriting, HasLeftWriting, HasPlayed, HasPlayedGivingUp};
+    ghost use Rattle.running_rw_writer.specs.RwWriterShown.{IsRwWriterPass, IsItsWord, HasWokenBoth, IsAloneWithin, pass_in, writes_of, flags_of, HasEnteredToWrite, HasEnteredSeenFree, HasWrittenAtOnce, HasSeenTaken, HasTried, HasJustSeen, MayGiveUp, HasGivenUpWriting, HasLeftWriting, HasPlayed, HasPlayedGivingUp, AskedCount, AskedCounts};
 
     /// What `try_write_lock` does, and whether the hold is on.
     #[inline(always)]
@@ -75,21 +76,21 @@ impl<A: Allocator, S> RwLockWriterPreference<A, S> {
         rt: &R,
         counter: &Sealed<X>,
         word: &Sealed<X>,
-        wait: &W,
+        wait: W,
         wake_one: &K,
         wake_all: &V,
     ) -> bool
         requires own { IsPassOf self.now.stage pass.old }
         requires counter { IsItsWord 1 self.now (X.object counter.now.shown) (X.index counter.now.shown) }
         requires word { IsItsWord 0 self.now (X.object word.now.shown) (X.index word.now.shown) }
-        requires may { W.IsAlwaysCallable wait.now }
+        requires may { W.IsAlwaysCallable wait }
         requires may_one { K.IsAlwaysCallable wake_one.now }
         requires may_all { V.IsAlwaysCallable wake_all.now }
         ensures entered { MatchBool result (HasEnteredSeenFree pass.old pass.new) (HasGivenUpWriting 10003 pass.old pass.new) }
         ensures played { MatchBool result (HasPlayed calls.WriteLock answers.Success (Some kinds.Write) pass.old pass.new) (HasPlayedGivingUp (HasWokenBoth K.Fn V.Fn X.object X.index self.now wake_one.now wake_all.now) pass.old pass.new) }
         ensures has { result ≡ true → has_hold kinds.Write (parties_of pass.new) ≡ true }
         ensures exact { IsAloneWithin pass.old → result ≡ true }
-        ensures aborted { result ≡ false → MayAnswerAbort W.Fn wait.now (λ n. n < 2 ^ 64) }
+        ensures aborted { result ≡ false → MayAnswerAbort W.Fn wait (λ n. n < 2 ^ 64) }
         ensures woke { result ≡ false → IsMarked (sights_of pass.new).last → HasWokenBoth K.Fn V.Fn X.object X.index self.now wake_one.now wake_all.now }
     {
         match self.first_try(pass) {
@@ -131,14 +132,14 @@ impl<A: Allocator, S> RwLockWriterPreference<A, S> {
     }
 
     /// What it does from a value at which it has not entered. Whether it entered; the call is over.
-    fn write_later<'p, X: Shown, R: Wait, W: Fn(&X, &u64) -> WaitAction, K: Fn(&X), V: Fn(&X)>(
+    fn write_later<'p, X: Shown, R: Wait, W: FnMut(&X, &u64) -> WaitAction, K: Fn(&X), V: Fn(&X)>(
         &self,
         turn: Turn<'p, PlayedPass, Goes>,
         rt: &R,
         seen: u64,
         counter: &Sealed<X>,
         word: &Sealed<X>,
-        wait: &W,
+        wait: W,
         wake_one: &K,
         wake_all: &V,
     ) -> (bool, &'p mut PlayedPass)
@@ -147,13 +148,13 @@ impl<A: Allocator, S> RwLockWriterPreference<A, S> {
         requires word { IsItsWord 0 self.now (X.object word.now.shown) (X.index word.now.shown) }
         requires just { HasJustSeen seen turn.pass.now }
         requires at { (done : List (Slot ℕ)) × WriteGoes (write_refused (spun 0) seen) done (parties_of turn.pass.now) }
-        requires may { W.IsAlwaysCallable wait.now }
+        requires may { W.IsAlwaysCallable wait }
         requires may_one { K.IsAlwaysCallable wake_one.now }
         requires may_all { V.IsAlwaysCallable wake_all.now }
         ensures same_borrow { result.1.ghost_name ≡ turn.entry.pass.ghost_name }
         ensures entered { MatchBool result.0 (HasEnteredSeenFree turn.entry.pass.now result.1.now) (HasGivenUpWriting 10002 turn.entry.pass.now result.1.now) }
         ensures played { OnceWriting (write_refused (spun 0) seen) (parties_of turn.entry.pass.now) (λ done. MatchBool result.0 (WriteIsGranted done (parties_of result.1.now)) (WriteGivesUp (HasWokenBoth K.Fn V.Fn X.object X.index self.now wake_one.now wake_all.now) done (parties_of result.1.now))) }
-        ensures aborted { result.0 ≡ false → MayAnswerAbort W.Fn wait.now (λ n. n < 2 ^ 64) }
+        ensures asked { (after : W) × AskedCounts W.FnMut counter.now.shown wait after result.0 }
         ensures woke { result.0 ≡ false → IsMarked (sights_of result.1.now).last → HasWokenBoth K.Fn V.Fn X.object X.index self.now wake_one.now wake_all.now }
     {
         let (at_once, marked) = self.mark_or_enter(turn, rt, seen);
@@ -164,7 +165,10 @@ impl<A: Allocator, S> RwLockWriterPreference<A, S> {
         if in_time {
             return (true, spun.end(&self.stage));
         }
-        self.ask_to_write(spun, rt, counter, word, wait, wake_one, wake_all)
+        let (entered, pass, _) = self.ask_to_write(
+            spun, rt, counter, word, wait, wake_one, wake_all,
+        );
+        (entered, pass)
     }
 
     /// Looks, and enters where nobody holds the lock; else sees to it that no reader enters. Whether it entered.
@@ -292,77 +296,89 @@ impl<A: Allocator, S> RwLockWriterPreference<A, S> {
     }
 
     /// Loads the counter and looks; where the lock is blocked it calls the wait closure, with the counter, before it tries to enter again.
-    /// After `Abort` it tries once more, or gives up. Whether it entered; the call is over.
-    fn ask_to_write<'p, X: Shown, R: Wait, W: Fn(&X, &u64) -> WaitAction, K: Fn(&X), V: Fn(&X)>(
+    /// After `Abort` it tries once more, or gives up. Whether it entered, the pass, and the closure; the call is over.
+    fn ask_to_write<'p, X: Shown, R: Wait, W: FnMut(&X, &u64) -> WaitAction, K: Fn(&X), V: Fn(&X)>(
         &self,
         turn: Turn<'p, PlayedPass, Goes>,
         rt: &R,
         counter: &Sealed<X>,
         word: &Sealed<X>,
-        wait: &W,
+        wait: W,
         wake_one: &K,
         wake_all: &V,
-    ) -> (bool, &'p mut PlayedPass)
+    ) -> (bool, &'p mut PlayedPass, W)
         requires own { IsPassOf self.now.stage turn.pass.now }
         requires counter { IsItsWord 1 self.now (X.object counter.now.shown) (X.index counter.now.shown) }
         requires word { IsItsWord 0 self.now (X.object word.now.shown) (X.index word.now.shown) }
         requires at { (done : List (Slot ℕ)) × WriteGoes (afters.At (places.LoadCounter (spun 10000))) done (parties_of turn.pass.now) }
-        requires may { W.IsAlwaysCallable wait.now }
+        requires may { W.IsAlwaysCallable wait }
         requires may_one { K.IsAlwaysCallable wake_one.now }
         requires may_all { V.IsAlwaysCallable wake_all.now }
         ensures same_borrow { result.1.ghost_name ≡ turn.entry.pass.ghost_name }
         ensures entered { MatchBool result.0 (HasEnteredSeenFree turn.entry.pass.now result.1.now) (HasGivenUpWriting 2 turn.entry.pass.now result.1.now) }
         ensures played { OnceWriting (afters.At (places.LoadCounter (spun 10000))) (parties_of turn.entry.pass.now) (λ done. MatchBool result.0 (WriteIsGranted done (parties_of result.1.now)) (WriteGivesUp (HasWokenBoth K.Fn V.Fn X.object X.index self.now wake_one.now wake_all.now) done (parties_of result.1.now))) }
-        ensures aborted { result.0 ≡ false → MayAnswerAbort W.Fn wait.now (λ n. n < 2 ^ 64) }
+        ensures asked { AskedCounts W.FnMut counter.now.shown wait result.2 result.0 }
         ensures woke { result.0 ≡ false → IsMarked (sights_of result.1.now).last → HasWokenBoth K.Fn V.Fn X.object X.index self.now wake_one.now wake_all.now }
     {
         let mut next = turn;
+        let mut wait = wait;
         for _ in rt.forever() {
             match self.ask_once(next, rt, counter, wait) {
-                Ok((entered, last)) => {
+                Ok((entered, last, asked)) => {
                     if entered {
-                        return (true, last.end(&self.stage));
+                        return (true, last.end(&self.stage), asked);
                     }
                     next = last;
+                    wait = asked;
                 }
-                Err(aborted) => return self.enter_or_give_up(
-                    aborted, rt, counter, word, wake_one, wake_all,
-                ),
+                Err((aborted, asked)) => {
+                    let (entered, pass) = self.enter_or_give_up(
+                        aborted, rt, counter, word, wake_one, wake_all,
+                    );
+                    return (entered, pass, asked);
+                }
             }
         }
         unreachable!()
     }
 
     /// Loads the counter and looks; where the lock is blocked it calls the wait closure, with the counter. Then it tries to enter: whether
-    /// it did. `Err` where the closure has answered `Abort`.
+    /// it did. `Err` where the closure has answered `Abort`. Gives the closure back.
     #[inline(always)]
-    fn ask_once<'p, X: Shown, R: Wait, W: Fn(&X, &u64) -> WaitAction>(
+    fn ask_once<'p, X: Shown, R: Wait, W: FnMut(&X, &u64) -> WaitAction>(
         &self,
         turn: Turn<'p, PlayedPass, Goes>,
         rt: &R,
         counter: &Sealed<X>,
-        wait: &W,
-    ) -> Result<(bool, Turn<'p, PlayedPass, Goes>), Turn<'p, PlayedPass, Aborted>>
+        wait: W,
+    ) -> Result<(bool, Turn<'p, PlayedPass, Goes>, W), (Turn<'p, PlayedPass, Aborted>, W)>
         requires own { IsPassOf self.now.stage turn.pass.now }
         requires counter { IsItsWord 1 self.now (X.object counter.now.shown) (X.index counter.now.shown) }
         requires at { (done : List (Slot ℕ)) × WriteGoes (afters.At (places.LoadCounter (spun 10000))) done (parties_of turn.pass.now) }
-        requires may { W.IsAlwaysCallable wait.now }
+        requires may { W.IsAlwaysCallable wait }
         ensures same_borrow { IfOk result (λ tried. tried.1.pass.ghost_name ≡ turn.entry.pass.ghost_name) }
-        ensures same_borrow_too { IfErr result (λ aborted. aborted.pass.ghost_name ≡ turn.entry.pass.ghost_name) }
+        ensures same_borrow_too { IfErr result (λ aborted. aborted.0.pass.ghost_name ≡ turn.entry.pass.ghost_name) }
         ensures entered { IfOk result (λ tried. MatchBool tried.0 (HasEnteredSeenFree turn.entry.pass.now tried.1.pass.now) (HasTried 1 turn.entry.pass.now tried.1.pass.now)) }
         ensures played { IfOk result (λ tried. OnceWriting (afters.At (places.LoadCounter (spun 10000))) (parties_of turn.entry.pass.now) (λ done. MatchBool tried.0 (WriteIsGranted done (parties_of tried.1.pass.now)) (WriteGoes (afters.At (places.LoadCounter (spun 10000))) done (parties_of tried.1.pass.now)))) }
-        ensures looked { IfErr result (λ aborted. HasTried 1 turn.entry.pass.now aborted.pass.now) }
-        ensures stood { IfErr result (λ aborted. OnceWriting (afters.At (places.LoadCounter (spun 10000))) (parties_of turn.entry.pass.now) (λ done. ComesToGiveUp done (parties_of aborted.pass.now))) }
-        ensures aborted { IfErr result (λ _. MayAnswerAbort W.Fn wait.now (λ n. n < 2 ^ 64)) }
+        ensures looked { IfErr result (λ aborted. HasTried 1 turn.entry.pass.now aborted.0.pass.now) }
+        ensures stood { IfErr result (λ aborted. OnceWriting (afters.At (places.LoadCounter (spun 10000))) (parties_of turn.entry.pass.now) (λ done. ComesToGiveUp done (parties_of aborted.0.pass.now))) }
+        ensures may_again { IfOk result (λ tried. W.IsAlwaysCallable tried.2) }
+        ensures asked { IfOk result (λ tried. (wait ≡ tried.2) ⊎ AskedCount W.FnMut counter.now.shown wait actions.Continue tried.2) }
+        ensures aborted { IfErr result (λ aborted. AskedCount W.FnMut counter.now.shown wait actions.Abort aborted.1) }
     {
         let (count, seen, looked) = self.look_last(turn);
         if is_blocked(seen) {
-            return match looked.ask(&self.stage, counter, count, wait) {
-                Answered::Continue(continued) => Ok(self.enter_or_mark(continued, rt)),
-                Answered::Abort(aborted) => Err(aborted),
+            let (answer, asked) = looked.ask(&self.stage, counter, count, wait);
+            return match answer {
+                Answered::Continue(continued) => {
+                    let (entered, last) = self.enter_or_mark(continued, rt);
+                    Ok((entered, last, asked))
+                }
+                Answered::Abort(aborted) => Err((aborted, asked)),
             };
         }
-        Ok(self.enter_or_mark_from(looked, rt, seen))
+        let (entered, last) = self.enter_or_mark_from(looked, rt, seen);
+        Ok((entered, last, wait))
     }
 
     /// Looks, and enters where nobody holds the lock; else gives up. Whether it entered; the call is over.

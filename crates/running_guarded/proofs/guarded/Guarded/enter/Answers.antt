@@ -1,5 +1,7 @@
-use Rattle.running_guarded.proofs.Names.{Call, Answer, HoldKind, mutex_model, all_of, MatchBool, Some, None, sym, subst, MatchBool-at_true, MatchBool-at_false, is_over, either_is_over, granted_has, Plays}
-use Rattle.running_guarded.proofs.GuardedSights.{may_begin, led_first}
+use Rattle.running_guarded.proofs.Names.{IsLocked, Enters, GivesUp, refl, ◌≡◌, ◌∙◌, Call, Answer, HoldKind, mutex_model, all_of, MatchBool, Some, None, sym, subst, MatchBool-at_true, MatchBool-at_false, is_over, either_is_over, granted_has, Plays}
+use Rattle.running_guarded.proofs.GuardedSights.{may_begin, led_first, sees_once, sees_on, gave_up}
+use Rattle.running_model.proofs.Questions.{some_asked, first_goes_on, ends_abort}
+use Rattle.std.proofs.Common.{length}
 use Rattle.running_guarded.proofs.guarded.Guarded.enter.Goals as goal
 
 pub first-free-requires-clause-may : goal.first-free-requires-clause-may
@@ -47,3 +49,12 @@ returns-clause-played g c = let refused = MatchBool-at_false _ _ c.if-free.false
 
 pub returns-clause-has : goal.returns-clause-has
 returns-clause-has g c = λ granted. granted_has Call.Lock c.args.seat.me.0.tally.parties _ (MatchBool-at_true _ _ granted (returns-clause-played g c))
+
+pub returns-clause-entered : goal.returns-clause-entered
+returns-clause-entered g c = let asked = c.ask_and_try-granted.ensures.asked in
+    subst (λ s. MatchBool c.ask_and_try-granted.result.0 (Enters c.args.seat.me.0 s.me.0) (GivesUp 10001 g.W.Fn c.args.wait c.args.seat.me.0 s.me.0)) (sym c.end-2.ensures.still)
+    (gave_up g.W.Fn c.args.wait _ _ _ _ (length asked.asked) (sees_on 1 10000 _ _ _ (sees_once _ _ (MatchBool-at_false _ _ c.if-free.false c.first-free.ensures.locked)) (MatchBool-at_false _ _ c.if-soon.false c.spin-soon.ensures.entered)) c.ask_and_try-granted.ensures.entered
+    (λ no. (asked.looks no tt, some_asked _ c.word.result.shown IsLocked g.W.Fn c.args.wait (λ f. f ≡ c.args.wait) (λ f a r after good called. (g.met.W.Fn.1.step_stays _ _ _ _ called ∙ good, record { met = subst (λ x. g.W.Fn.post x a r) good ((g.met.W.FnMut.1.post_iff _ _ _).1 (after, called)) })) asked.asked 1 asked.asks, first_goes_on _ _ IsLocked g.W.Fn c.args.wait (λ f. f ≡ c.args.wait) (λ f a r after good called. (g.met.W.Fn.1.step_stays _ _ _ _ called ∙ good, record { met = subst (λ x. g.W.Fn.post x a r) good ((g.met.W.FnMut.1.post_iff _ _ _).1 (after, called)) })) asked.asked 1 c.args.wait _ asked.asks refl asked.led refl)))
+
+pub returns-clause-aborted : goal.returns-clause-aborted
+returns-clause-aborted g c = λ no. let asked = c.ask_and_try-granted.ensures.asked in ends_abort _ _ IsLocked g.W.Fn c.args.wait (λ f. f ≡ c.args.wait) (λ f a r after good called. (g.met.W.Fn.1.step_stays _ _ _ _ called ∙ good, record { met = subst (λ x. g.W.Fn.post x a r) good ((g.met.W.FnMut.1.post_iff _ _ _).1 (after, called)) })) asked.asked 1 c.args.wait _ asked.asks refl (asked.ends no) asked.led refl
