@@ -9,7 +9,8 @@ use model_events::words::Words;
 use std::alloc::{AllocError, Global};
 use text_own::{OwnLock, word_at};
 
-fn value_at(words: &Words, at: usize) -> u64
+/// What the word at a place holds, and 0 where there is none.
+pub fn value_at(words: &Words, at: usize) -> u64
     ensures { result ≡ meaning.value_at words.now at }
 {
     match word_at(at) {

@@ -24,7 +24,7 @@ use crate::several::begins_several;
 pub use failed::Failed;
 use model_events::event::Object;
 use std::alloc::{AllocError, Global};
-use text_lines::fault::FaultyLine;
+use text_lines::fault::{FaultyLine, LineFault};
 use text_lines::lexer::{next_line, next_word};
 use text_lines::value_type::object_named;
 
@@ -62,6 +62,8 @@ pub fn explain(alloc: Global, text: &[u8], found: FaultyLine) -> Result<Vec<u8>,
     out.extend_from_slice(b"\n")?;
     if begins_several(text) {
         several::advise(&mut out, text, line, found)?;
+    } else if own::begins_own(text) && !matches!(found.fault, LineFault::NoObject) {
+        own::advise_played(&mut out, text, line, found)?;
     } else {
         advise(&mut out, object_of(text), line, found)?;
     }

@@ -1,6 +1,8 @@
 //! What would be right in a line of a lock of one's own.
 
-use crate::words::{first_word, has, has_comment, of_comment, say};
+use crate::sentence;
+use crate::words::{first_word, has, has_comment, is_no_number, of_comment, say};
+use model_events::event::Object;
 use std::alloc::AllocError;
 use text_lines::fault::{FaultyLine, LineFault};
 use text_lines::lexer::{is, next_line, next_word};
@@ -170,5 +172,65 @@ pub fn advise(
             b"the second line names the lock's words, six at most, each with what it holds at first: words state 0, tries 0",
         ),
         _ => of_line(out, question, line),
+    }
+}
+
+/// Of a line that plays the lock of a text.
+fn of_played(
+    out: &mut Vec<u8>,
+    text: &[u8],
+    line: &[u8],
+    found: FaultyLine,
+) -> Result<(), AllocError> {
+    let call = word_behind(line, 1);
+    match found.fault {
+        LineFault::BadLine if has(CALLS, call) && !begins_a_line(text, call) => {
+            say(out, b"the table has no call `", call, b"`")
+        }
+        LineFault::NoParty => out.extend_from_slice(
+            b"the parties are numbered from 1, and the line behind the table says how many there are",
+        ),
+        _ => sentence::advise(out, Some(Object::Mutex), line, found),
+    }
+}
+
+/// The line behind a table that begins with this name, counted from 1. 0 where there is none.
+fn opening_line(text: &[u8], name: &[u8]) -> u64 {
+    let mut rest = text;
+    for number in 1..text.len() {
+        let Some((line, behind)) = next_line(rest) else {
+            break;
+        };
+        if number > 2 && is(unmarked(first_word(line)), name) {
+            return number as u64;
+        }
+        rest = behind;
+    }
+    0
+}
+
+/// Adds what would be right in the place of a line with this fault, of a text that plays its lock.
+pub fn advise_played(
+    out: &mut Vec<u8>,
+    text: &[u8],
+    line: &[u8],
+    found: FaultyLine,
+) -> Result<(), AllocError> {
+    let (object, _) = next_line(text).unwrap_or((b"", b""));
+    let name = word_behind(object, 1);
+    let opening = opening_line(text, name);
+    let (first, second) = (word_behind(line, 0), word_behind(line, 1));
+    let opens = first.is_empty() || is(first, b"never") || !is_no_number(second);
+    if 0 < opening && opening < found.line {
+        of_played(out, text, line, found)
+    } else if opening == found.line || 2 < found.line && opens {
+        say(
+            out,
+            b"behind the table stand the lock's name, and 1 to 64 parties: ",
+            name,
+            b" 2",
+        )
+    } else {
+        advise(out, text, line, found)
     }
 }

@@ -5,3 +5,4 @@ pub mod CellLaws
 pub mod RowLaws
 pub mod TraceLaws
 pub mod SeveralLaws
+pub mod OwnLaws

@@ -13,7 +13,7 @@ use Rattle.text_room.proofs.LastLaws.{drop_there}
 use Rattle.text_room.proofs.PlayLaws.{fault_then}
 use Rattle.text_trace.specs.declared.several.Setting.{Setting}
 use Rattle.text_trace.specs.Several.{step_there, hold_there, hold_at, holders_of_each, words_there, titles_of, cells_at, cells_in, walk_in, HasAdded, rows_from, rows_opened, rows_or_fault, rows_of}
-use Rattle.text_trace.specs.Trace.{RowsAndFault, rows_with}
+use Rattle.text_trace.specs.Trace.{RowsAndFault, no_rows, rows_with}
 use Rattle.text_trace.proofs.QuietLaws.{act_holds, words_again}
 use Rattle.text_trace.proofs.TraceLaws.{IsHalfway, Strides, goes_on}
 
@@ -194,11 +194,9 @@ module _ {T : Type 0} (z : Arithmetic T) (numerals : Numerals T) where
   unfolding go_walk
   rows_left setting found rest names shown objects parties left line lines = rw (names, shown, objects, parties, left, line, lines) refl
 
-  pub opens_none : (lines : List (List ℕ)) (titles : List (String Global)) (rows : List (Row T)) (fault : FaultyLine) → opened numerals lines ≡ Err fault → titles ≡ [] → rows ≡ [] →
-      record { titles = map string_bytes titles; rows = entries rows; fault = Some fault } ≡ rows_of z numerals lines
-  unfolding rows_of made
-  opens_none lines titles rows fault is untitled none =
-      ap (λ (t : List (String Global)). made (map string_bytes t) (entries rows) (Some fault)) untitled ∙ ap (λ (l : List (Row T)). made [] (entries l) (Some fault)) none ∙ sym (ap (rows_or_fault z numerals) is)
+  pub opens_none : (lines : List (List ℕ)) (fault : FaultyLine) → opened numerals lines ≡ Err fault → no_rows fault ≡ rows_of z numerals lines
+  unfolding rows_of
+  opens_none lines fault is = sym (ap (rows_or_fault z numerals) is)
 
   pub opens : (lines : List (List ℕ)) (found : Opened T) → opened numerals lines ≡ Ok found → rows_opened z numerals found ≡ rows_of z numerals lines
   unfolding rows_of

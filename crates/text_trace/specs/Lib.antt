@@ -6,4 +6,5 @@ pub mod Rows
 pub mod Table
 pub mod Trace
 pub mod Several
+pub mod Own
 pub mod Whole

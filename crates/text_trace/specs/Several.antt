@@ -14,7 +14,7 @@ use Rattle.text_trace.specs.declared.rows.Row.{Row}
 use Rattle.text_trace.specs.Each.{for_each}
 use Rattle.text_trace.specs.Cells.{Texts, act_words, standing_words, words_text, holders, or_dash}
 use Rattle.text_trace.specs.Table.{text_at}
-use Rattle.text_trace.specs.Trace.{RowsAndFault, unless_fault, rows_with, Adds}
+use Rattle.text_trace.specs.Trace.{RowsAndFault, no_rows, unless_fault, rows_with, Adds}
 
 -- the words of each object have a title
 abbrev pub title_of : List ℕ → List ℕ
@@ -88,7 +88,7 @@ module _ {T : Type 0} (z : Arithmetic T) (numerals : Numerals T) where
 
   abbrev pub rows_or_fault : Result (Opened T) FaultyLine → RowsAndFault T
   rows_or_fault (Ok found) = rows_opened found
-  rows_or_fault (Err fault) = record { titles = []; rows = []; fault = Some fault }
+  rows_or_fault (Err fault) = no_rows fault
 
   unfoldable pub rows_of : List (List ℕ) → RowsAndFault T
   rows_of lines = rows_or_fault (opened numerals lines)

@@ -27,6 +27,10 @@ rows_told found = record { titles = map string_bytes found.titles.items; rows = 
 unfoldable pub written : {T : Type 0} → RowsAndFault T → Written
 written found = record { bytes = table found.titles found.rows; fault = found.fault }
 
+-- where the lines before the first step have a fault
+abbrev pub no_rows : {T : Type 0} → FaultyLine → RowsAndFault T
+no_rows fault = record { titles = []; rows = []; fault = Some fault }
+
 -- the words of one object have one title
 abbrev pub one_title : List (List ℕ)
 one_title = codes "word" ∷ []

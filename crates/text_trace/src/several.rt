@@ -18,7 +18,7 @@ use crate::cells::{
 };
 use crate::rows::{Row, add, trim};
 use crate::table::text_at;
-use crate::trace::Rows;
+use crate::trace::{Rows, no_rows};
 use model_events::event::Object;
 use model_events::hold::HoldKind;
 use model_room::room::Room;
@@ -269,15 +269,7 @@ pub(crate) fn rows_of<T: TextInteger>(alloc: Global, text: &[u8]) -> Result<Rows
 {
     match open::<T, Global>(alloc, text) {
         Ok((group, mut rest)) => rows_of_group(alloc, &group, &mut rest),
-        Err(TextFault::Line { line, fault }) => {
-            let titles = Vec::new(alloc);
-            let rows = Vec::new(alloc);
-            Ok(Rows {
-                titles,
-                rows,
-                fault: Some(FaultyLine { line, fault }),
-            })
-        }
+        Err(TextFault::Line { line, fault }) => Ok(no_rows(alloc, FaultyLine { line, fault })),
         Err(TextFault::Memory) => Err(AllocError),
     }
 }

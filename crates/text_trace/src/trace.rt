@@ -4,14 +4,16 @@ ghost use Rattle.sync_steps.specs.Machine.{StandsAt};
 ghost use Rattle.model_events.specs.declared.event.Event.{Event as AnEvent};
 ghost use Rattle.text_lines.specs.Lexer.{lines_of};
 ghost use Rattle.sync_play.specs.Walk.{rest_walk};
+ghost use Rattle.text_own.specs.Answer.{unmark};
+ghost use Rattle.text_trace.specs.Own as own;
 ghost use Rattle.text_trace.specs.Several as several;
 ghost use Rattle.text_trace.specs.Trace as meaning;
 ghost use Rattle.text_trace.specs.Whole.{trace_of};
 
 use crate::cells::cells_of;
 use crate::rows::{Row, add, trim};
-use crate::several;
 use crate::table::table;
+use crate::{own, several};
 use std::alloc::{AllocError, Global};
 use sync_play::walk::{Rest, next_stride, open};
 use sync_steps::steps::Machine;
@@ -19,6 +21,7 @@ use text_lines::by_value_type;
 use text_lines::fault::FaultyLine;
 use text_lines::header::Header;
 use text_lines::integer::TextInteger;
+use text_own::{begins_own, unmarked};
 use text_room::text::begins_several;
 
 /// The rows of a run, the titles of the words' columns, and the line with a fault that ended it early, if there is one.
@@ -99,6 +102,17 @@ fn rows_of<T: TextInteger>(alloc: Global, text: &[u8]) -> Result<Rows<T>, AllocE
     })
 }
 
+/// No rows, where the lines before the first step have a fault.
+pub(crate) fn no_rows<T>(alloc: Global, fault: FaultyLine) -> Rows<T>
+    ensures { meaning.rows_told result ≡ meaning.no_rows fault }
+{
+    Rows {
+        titles: Vec::new(alloc),
+        rows: Vec::new(alloc),
+        fault: Some(fault),
+    }
+}
+
 /// What is written of these rows.
 fn written<T: TextInteger>(alloc: Global, found: Rows<T>) -> Result<Trace, AllocError>
     ensures { IfOk result (λ trace. meaning.written_of trace ≡ meaning.written (meaning.rows_told found)) }
@@ -126,13 +140,24 @@ fn trace_several<T: TextInteger>(alloc: Global, text: &[u8]) -> Result<Trace, Al
     written(alloc, found)
 }
 
-/// The trace of a text of one object or of several: the head and a line for each row, up to its end or its first fault.
+/// The trace of a text that begins with a table.
+fn trace_own(alloc: Global, text: &[u8]) -> Result<Trace, AllocError>
+    ensures { IfOk result (λ trace. meaning.written_of trace ≡ meaning.written (own.rows_of (lines_of (map unmark text.now)))) }
+{
+    let plain = unmarked(alloc, text)?;
+    let found = own::rows_of(alloc, &plain)?;
+    written(alloc, found)
+}
+
+/// The trace of a text, of a lock of one's own, of one object or of several: the head and a line for each row, up to its end or its first fault.
 ///
 /// Its steps are let go as they are folded into rows, so it takes memory for the rows and the output alone.
 pub fn trace_text(alloc: Global, text: &[u8]) -> Result<Trace, AllocError>
     ensures { IfOk result (λ trace. meaning.written_of trace ≡ trace_of text.now) }
 {
-    if begins_several(text) {
+    if begins_own(text) {
+        trace_own(alloc, text)
+    } else if begins_several(text) {
         by_value_type!(text, trace_several(alloc, text))
     } else {
         by_value_type!(text, trace_typed(alloc, text))

@@ -1,4 +1,4 @@
-use Rattle.text_trace.proofs.Names.{◌≡◌, subst, IfOk, lines_of}
+use Rattle.text_trace.proofs.Names.{◌≡◌, ◌∙◌, subst, IfOk, lines_of}
 use Rattle.text_lines.specs.Fault.{IsFaultOf}
 use Rattle.text_lines.specs.declared.fault.TextFault.{TextFault}
 use Rattle.text_room.specs.Walk.{opened, told}
@@ -13,4 +13,5 @@ returns-in-Ok g c =
 
 pub returns-in-Err-Line : goal.returns-in-Err-Line
 returns-in-Err-Line g c =
-    opens_none g.T.AtomicInteger.arithmetic g.T.TextInteger.numerals (lines_of c.args.text.now) _ _ (record { line = c.in-Err-Line.line; fault = c.in-Err-Line.fault }) (subst (λ (e : TextFault). IsFaultOf e (opened g.T.TextInteger.numerals (lines_of c.args.text.now))) c.in-Err-Line.field-0-is c.in-Err-Line.ensures.fault) c.new-titles.ensures.items c.new-rows.ensures.items
+    c.no_rows.ensures
+    ∙ opens_none g.T.AtomicInteger.arithmetic g.T.TextInteger.numerals (lines_of c.args.text.now) (record { line = c.in-Err-Line.line; fault = c.in-Err-Line.fault }) (subst (λ (e : TextFault). IsFaultOf e (opened g.T.TextInteger.numerals (lines_of c.args.text.now))) c.in-Err-Line.field-0-is c.in-Err-Line.ensures.fault)
