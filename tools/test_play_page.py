@@ -47,8 +47,7 @@ def stored():
             picture = f"docs/pictures/{os.path.basename(stem)}.svg"
             if os.path.exists(picture):
                 yield "draw", text, read(picture), fault, status
-    # The page traces what it plays, and a lock of one's own is not traced.
-    for table in sorted(set(glob.glob("texts/sync-*/*.txt")) - {"texts/sync-play/own.txt"}):
+    for table in sorted(glob.glob("texts/sync-*/*.txt")):
         for text, printed in cases_in(read(table)):
             status, out, fault = wanted_of(printed)
             if is_text(written(text)):

@@ -5,7 +5,7 @@
 #![tactic(auto)]
 
 ghost use Rattle.std.specs.Prelude.{◌≡◌, ◌≤◌, ◌<◌, length, take, None, Ok, IsErr};
-ghost use Rattle.text_room.specs.Output.{output_of};
+ghost use Rattle.own_play.specs.Output.{output_of};
 ghost use Rattle.text_lines.specs.Fault.{status_of};
 ghost use Rattle.text_trace.specs.Whole.{trace_of};
 ghost use Rattle.draw_text.specs.Picture.{IsPictureOf};
@@ -17,11 +17,11 @@ use explore_client::run::answer;
 use explore_client::unanswered::Unanswered;
 use explore_search::watch::Unwatched;
 use explore_text::report::Scope;
+use own_play::play_text;
 use std::alloc::{AllocError, Global};
 use std::fmt;
 use text_advice::Failed;
 use text_lines::fault::{RunFault, TextFault};
-use text_room::play_text;
 use text_trace::trace::trace_text;
 
 /// What an export tells beside what it writes.
