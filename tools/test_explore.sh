@@ -27,6 +27,8 @@ test_explore() {
         attempt ./sync-explore --told <"${text%.told}.txt"
         judge "./sync-explore --told, of $text" 0 "$text" /dev/null
     done
+    # Each takes a minute or so where the machine has nothing else to do.
+    local limit=600
     attempt python3 tools/brute.py --random 200 1
     judge_line "tools/brute.py" 0 "200 questions, 0 wrong" ""
     attempt python3 tools/brute.py --clients 300 1
