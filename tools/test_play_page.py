@@ -165,6 +165,15 @@ class Cases:
         run("document.querySelector('[value=play]').click()")
         self.seen("and the text that was left is there", "text.value === 'mutex 2\\n1 lokc\\n' && fault.textContent.startsWith('line 2')")
 
+    def play_own(self, width):
+        run = self.browser.run
+        self.go(width, "a lock of one's own", "#play/object+tas/words+state+0/lock:+take/unlock:+free,+needs+hold/take:+exchange+state+0+1;+is+0:+success,+hold+write;+else+interrupted/free:+store+state+0;+done,+ends+hold/tas+2/1+lock/1+run")
+        self.seen("its output", "out.textContent === '1 success\\nstate 1 failed 0\\n'")
+        self.judge("its calls", run("[...parties.querySelectorAll('[data-party=\"1\"] button')].map(it => it.textContent)"), ["unlock"])
+        self.judge("it has no picture", run("pictured.hidden"), True)
+        run("back.click(); back.click()")
+        self.judge("its table stays", run("back.disabled"), True)
+
     def ask_through(self, width):
         run = self.browser.run
         self.go(width, "a question", "#explore/mutex+2/1+lock,+unlock/2+lock,+unlock/2+may+abort")
@@ -174,7 +183,7 @@ class Cases:
         self.seen("it is played", "out.textContent.startsWith('1 success\\n') && mode() === 'play'")
         self.judge("where it is read", run("[text, picture].every(it => it.getBoundingClientRect().top >= 0 && it.getBoundingClientRect().top < innerHeight / 2)"), True)
         lit = "out.querySelector('mark')?.textContent === '2 go 1\\n'"
-        for name, found in (("a lost wake", lit), ("Peterson's lock", "answers.textContent.includes('never: ')"), ("two philosophers", "out.textContent.includes('right.lock')")):
+        for name, found in (("a lost wake", lit), ("Peterson's lock", "answers.textContent.includes('never: ')"), ("two philosophers", "out.querySelector('mark')?.textContent === '2 run\\n'")):
             run(f"[...document.querySelectorAll('nav a')].find(it => it.textContent === {json.dumps(name)}).click()")
             self.seen(name, f"mode() === 'explore' && {found}", 60)
             if found == lit:
@@ -227,6 +236,7 @@ def main():
                 cases.open_long(width)
                 cases.click_through(width)
                 cases.ask_through(width)
+                cases.play_own(width)
             cases.go_amiss()
         else:
             sys.exit(__doc__)
