@@ -1,6 +1,7 @@
 # Each text of examples/ is played by each of `players`. NAME.txt has beside it what is written to standard output (NAME.out, or the
 # player's own ending), NAME.err for standard error where it is not empty, which all but sync-play go on as in NAME.advice, and NAME.status where
-# the status is not 0. Each is drawn too: a picture that a page shows is compared with its file, and every other is a picture.
+# the status is not 0. Each is drawn too, and so is each answer of `sync-explore` with its moves: a picture that a page shows is compared with its
+# file, and every other is a picture.
 test_examples() {
     local line player ending endings=() text stem
     for line in "${players[@]}"; do
@@ -14,8 +15,8 @@ test_examples() {
         done
     done
     if is_built "$drawer"; then
-        for text in examples/*.txt; do
-            draw_example "${text%.txt}"
+        for text in examples/*.txt examples/explore/*.told; do
+            draw_example "$text"
         done
         for text in docs/pages/*.html; do
             stem=$(basename -- "$text" .html)
@@ -36,8 +37,8 @@ test_examples() {
             if [[ $stem == rwwriter-lost-wake ]]; then
                 continue
             fi
-            if [[ ! -e examples/$stem.txt || -e examples/$stem.err ]]; then
-                fail "$text" "there is no examples/$stem.txt without a fault"
+            if [[ ! -e examples/explore/$stem.told && (! -e examples/$stem.txt || -e examples/$stem.err) ]]; then
+                fail "$text" "there is no examples/$stem.txt without a fault, and no examples/explore/$stem.told"
             fi
         done
     fi
@@ -72,12 +73,12 @@ play_example() {
 }
 
 draw_example() {
-    local label="./$drawer < $1.txt" picture why
-    picture=docs/pictures/$(basename -- "$1").svg
-    attempt "./$drawer" <"$1.txt"
-    if [[ -f $1.err ]]; then
-        cat -- "$1.err" "$1.advice" >"$room/wanted_err"
-        judge "$label" "$(<"$1.status")" /dev/null "$room/wanted_err"
+    local label="./$drawer < $1" stem=${1%.*} picture why
+    picture=docs/pictures/$(basename -- "$stem").svg
+    attempt "./$drawer" <"$1"
+    if [[ $1 == *.txt && -f $stem.err ]]; then
+        cat -- "$stem.err" "$stem.advice" >"$room/wanted_err"
+        judge "$label" "$(<"$stem.status")" /dev/null "$room/wanted_err"
     elif ! why=$(python3 tools/picture.py "$room/out" 2>&1); then
         fail "$label" "$why"
     elif [[ -f $picture ]]; then

@@ -34,12 +34,19 @@ pub enum Colour {
     Half,
 }
 
-/// What a word held, or an atomic.
+/// Whose values a band shows.
+#[derive(Clone, Copy, PartialEq, Eq)]
+pub enum Source {
+    /// Those of an object, counted from 0.
+    Object(usize, Shown),
+    /// Those of the variable that has the band's name.
+    Variable,
+}
+
+/// What a word held, an atomic or a variable.
 #[derive(Drop)]
 pub struct Band {
-    /// Of which object, counted from 0.
-    pub object: usize,
-    pub shown: Shown,
+    pub source: Source,
     pub name: String,
     pub left: u32,
     pub width: u32,
@@ -47,7 +54,7 @@ pub struct Band {
 }
 
 /// The colour of a value after one of this colour.
-fn colour_of(value: u64, last: Option<Colour>) -> Colour {
+pub(crate) fn colour_of(value: u64, last: Option<Colour>) -> Colour {
     let colour = match value % 3 {
         _ if value == 0 => Colour::Zero,
         1 => Colour::First,
@@ -71,7 +78,7 @@ fn colour_of_words(words: DataWords, last: Option<Colour>) -> Colour {
 }
 
 /// The colour of what a band shows last.
-fn last_colour(segments: &[Segment]) -> Option<Colour> {
+pub(crate) fn last_colour(segments: &[Segment]) -> Option<Colour> {
     match segments.last() {
         Some(segment) => Some(segment.colour),
         None => None,
@@ -122,7 +129,7 @@ fn said_words<T: TextInteger>(alloc: Global, words: DataWords) -> Result<String,
 }
 
 /// Adds what a band shows from a row on; what it shows last before ends there.
-fn add_segment(
+pub(crate) fn add_segment(
     segments: &mut Vec<Segment>,
     row: Option<u32>,
     title: String,
@@ -225,7 +232,7 @@ fn values_of<T: TextInteger>(
 }
 
 /// How wide a band has to be, so that all that it shows has room.
-fn band_width(name: &String, segments: &[Segment]) -> u32 {
+pub(crate) fn band_width(name: &String, segments: &[Segment]) -> u32 {
     let mut widest = text_width(name);
     for segment in segments {
         widest = widest.max(text_width(&segment.term));
@@ -275,8 +282,7 @@ fn band_of<T: TextInteger>(
     let name = name_of_band(alloc, object, shown)?;
     let width = band_width(&name, &segments);
     Ok(Band {
-        object: place,
-        shown,
+        source: Source::Object(place, shown),
         name,
         left,
         width,
@@ -328,6 +334,14 @@ pub fn bands_of<T: TextInteger>(
         left = add_bands(alloc, &mut bands, story, place, &story.objects[place], left)?;
     }
     Ok(bands)
+}
+
+/// Where a band behind these begins.
+pub fn bands_next(bands: &[Band], left: u32) -> u32 {
+    match bands.last() {
+        Some(band) => band.left.saturating_add(band.width).saturating_add(10),
+        None => left,
+    }
 }
 
 /// Where the last band ends, with the room that follows it.

@@ -4,6 +4,7 @@ ghost use Rattle.std.specs.Prelude.{◌<◌, ◌^◌, IfOk};
 use crate::label::{Reach, Tone, label_of, outcome_of, reach_of, tone_of};
 use crate::width::text_width;
 use draw_story::story::{Story, StoryObject, StoryStep};
+use draw_story::told::{Aside, Deed};
 use model_events::hold::HoldKind;
 use std::alloc::{AllocError, Global};
 use sync_steps::steps::{Act, Then};
@@ -65,6 +66,8 @@ pub struct Lane {
     pub holds: Vec<Hold>,
     /// The rows of what refused calls saw last.
     pub sights: Vec<u32>,
+    /// The rows in which it is told to be asleep.
+    pub sleeps: Vec<Span>,
     /// The row of what its party saw last.
     seen: Option<u32>,
 }
@@ -82,6 +85,7 @@ impl Lane {
             stands: Vec::new(alloc),
             holds: Vec::new(alloc),
             sights: Vec::new(alloc),
+            sleeps: Vec::new(alloc),
             seen: None,
         }
     }
@@ -185,13 +189,25 @@ fn label_width<T: TextInteger>(
     Ok(text_width(&label))
 }
 
-/// How wide the boxes of a party are. `None` where it makes no step.
+/// How wide the boxes of a party are, by what it does beside the objects. `None` where that is nothing.
+fn aside_width(asides: &[Aside], party: usize) -> Option<u32> {
+    let mut width = None;
+    for aside in asides {
+        if aside.party == party {
+            let wide = text_width(&aside.words) + 46;
+            width = Some(wide.max(width.unwrap_or(LEAST_BOX)));
+        }
+    }
+    width
+}
+
+/// How wide the boxes of a party are. `None` where it does nothing.
 fn box_width<T: TextInteger>(
     alloc: Global,
     story: &Story<T>,
     party: usize,
 ) -> Result<Option<u32>, AllocError> {
-    let mut width = None;
+    let mut width = aside_width(&story.asides, party);
     for step in &story.steps {
         if step.event.party == party {
             let wide = step_width(alloc, story, step)?;
@@ -355,6 +371,42 @@ impl Lane {
     }
 }
 
+/// The row in which a party that is asleep from a row on is woken.
+fn woken_at(asides: &[Aside], party: usize, from: u32) -> Option<u32> {
+    let wake = asides
+        .iter()
+        .find(|aside| aside.row > from && aside.deed == Deed::Wakes(party))?;
+    Some(wake.row)
+}
+
+/// The row of a party's first step behind a row.
+fn goes_on_at<T: Copy>(steps: &[StoryStep<T>], party: usize, from: u32) -> Option<u32> {
+    let step = steps
+        .iter()
+        .find(|step| step.row > from && step.event.party == party)?;
+    Some(step.row)
+}
+
+/// The rows in which a party is told to be asleep: from where it falls asleep until it is woken, or goes on since it is not.
+fn sleeps_of<T: Copy>(
+    alloc: Global,
+    story: &Story<T>,
+    party: usize,
+) -> Result<Vec<Span>, AllocError> {
+    let mut sleeps = Vec::new(alloc);
+    for aside in &story.asides {
+        if aside.party == party && aside.deed == Deed::Sleeps {
+            let last = woken_at(&story.asides, party, aside.row)
+                .or(goes_on_at(&story.steps, party, aside.row));
+            sleeps.push(Span {
+                first: aside.row,
+                last,
+            })?;
+        }
+    }
+    Ok(sleeps)
+}
+
 /// The lane of a party whose boxes are this wide, from this place on.
 fn lane_of<T: Copy>(
     alloc: Global,
@@ -365,6 +417,7 @@ fn lane_of<T: Copy>(
 ) -> Result<Lane, AllocError> {
     let mut lane = Lane::empty(alloc, party, left, width);
     lane.add_bars(story)?;
+    lane.sleeps = sleeps_of(alloc, story, party)?;
     for step in &story.steps {
         if step.event.party == party {
             lane.add(step)?;
@@ -395,7 +448,7 @@ fn right_of_lane(lane: &Lane) -> u32 {
         .saturating_add(lane.width)
 }
 
-/// Adds the lane of a party, if it makes a step.
+/// Adds the lane of a party, if it does something.
 fn add_party<T: TextInteger>(
     alloc: Global,
     lanes: &mut Vec<Lane>,
@@ -409,7 +462,7 @@ fn add_party<T: TextInteger>(
     }
 }
 
-/// The lanes, from this place on: one for each party that makes a step.
+/// The lanes, from this place on: one for each party that does something.
 pub fn lanes_of<T: TextInteger>(
     alloc: Global,
     story: &Story<T>,

@@ -1,12 +1,13 @@
 //! Where everything stands in a picture, in plain numbers: rows from top to bottom, and columns from left to right.
 //!
-//! A row is 24 pixels high and has one step. The lines of the schedule stand on the left, then comes a band for each word, and then a
-//! lane for each party that makes a step.
-ghost use Rattle.std.specs.Prelude.{◌<◌, ◌^◌};
+//! A row is 24 pixels high and has one step, or a move that is told beside the text. The lines of the schedule stand on the left, then comes a band
+//! for each word and each variable that changes, and then a lane for each party that does something.
+ghost use Rattle.std.specs.Prelude.{◌<◌, ◌^◌, IfSome};
 
-use crate::band::{Band, bands_of, bands_right};
+use crate::band::{Band, Source, bands_next, bands_of, bands_right};
 use crate::lane::{Lane, Span, lanes_of, lanes_right};
 use crate::terms::shown_at;
+use crate::variable::add_variables;
 use crate::width::text_width;
 use draw_story::story::Story;
 use std::alloc::{AllocError, Global};
@@ -62,17 +63,18 @@ fn bands_start<T>(story: &Story<T>) -> u32 {
 
 /// How many rows there are, one at least.
 fn row_count<T>(story: &Story<T>) -> u32 {
-    match story.steps.last() {
-        Some(step) => step.row.saturating_add(1),
-        None => 1,
-    }
+    let steps = story.steps.last().map_or(0, |step| step.row);
+    let asides = story.asides.last().map_or(0, |aside| aside.row);
+    steps.max(asides).saturating_add(1)
 }
 
 impl Layout {
     /// Where everything of a story stands.
     pub fn of<T: TextInteger>(alloc: Global, story: &Story<T>) -> Result<Layout, AllocError> {
         let bands_left = bands_start(story);
-        let bands = bands_of(alloc, story, bands_left)?;
+        let mut bands = bands_of(alloc, story, bands_left)?;
+        let variables_left = bands_next(&bands, bands_left);
+        add_variables(alloc, &mut bands, story, variables_left)?;
         let lanes_left = bands_right(&bands, bands_left);
         let lanes = lanes_of(alloc, story, lanes_left)?;
         let width = lanes_right(&lanes, lanes_left).max(LEAST_WIDTH);
@@ -113,11 +115,24 @@ impl Layout {
     pub fn right_of(&self, object: usize, word: Word) -> u64
         ensures { result < 2 ^ 40 }
     {
+        let shown = Source::Object(object, shown_at(word));
         for band in &self.bands {
-            if band.object == object && band.shown == shown_at(word) {
+            if band.source == shown {
                 return u64::from(band.left) + u64::from(band.width);
             }
         }
         u64::from(self.bands_left)
+    }
+
+    /// Where the band of a variable ends, if it has one.
+    pub fn right_of_variable(&self, name: &str) -> Option<u64>
+        ensures { IfSome result (λ right. right < 2 ^ 40) }
+    {
+        for band in &self.bands {
+            if band.source == Source::Variable && band.name.as_str() == name {
+                return Some(u64::from(band.left) + u64::from(band.width));
+            }
+        }
+        None
     }
 }

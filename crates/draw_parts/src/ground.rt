@@ -1,4 +1,5 @@
 //! Draws what the steps stand on.
+use crate::aside::draw_asides;
 use crate::band::draw_bands;
 use crate::foot::height_of;
 use crate::lane::draw_lanes;
@@ -30,7 +31,7 @@ fn draw_paper<T: Copy>(
     put_text(alloc, picture, "head", 12, 22, story.title.as_str())
 }
 
-/// Draws the columns: the schedule, the lanes and the bands.
+/// Draws the columns: the schedule, the lanes and the bands; and what is told beside the text.
 fn draw_columns<T>(
     alloc: Global,
     picture: &mut Markup,
@@ -39,7 +40,8 @@ fn draw_columns<T>(
 ) -> Result<(), AllocError> {
     draw_schedule(alloc, picture, story, layout)?;
     draw_lanes(alloc, picture, story, layout)?;
-    draw_bands(alloc, picture, layout)
+    draw_bands(alloc, picture, layout)?;
+    draw_asides(alloc, picture, story, layout)
 }
 
 /// Draws what the steps stand on.

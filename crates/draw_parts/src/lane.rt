@@ -80,6 +80,21 @@ fn draw_stand(
     put_titled(alloc, picture, area, "waits at its closure")
 }
 
+/// Draws a sleep, in the box of its call.
+fn draw_sleep(
+    alloc: Global,
+    picture: &mut Markup,
+    layout: &Layout,
+    lane: &Lane,
+    span: &Span,
+) -> Result<(), AllocError> {
+    let top = top_of(span.first) + 8;
+    let bottom = layout.bottom_of(span, 8);
+    let height = bottom.saturating_sub(top);
+    let area = rect(alloc, "waiting", lane.start() + 4, top, 20, height)?;
+    put_titled(alloc, picture, area, "asleep")
+}
+
 /// Draws a hold.
 fn draw_hold(
     alloc: Global,
@@ -142,7 +157,7 @@ fn draw_sight(
     put_titled(alloc, picture, ring, title)
 }
 
-/// Draws a party's calls, and where they stand.
+/// Draws a party's calls, where they stand, and where it sleeps.
 fn draw_calls(
     alloc: Global,
     picture: &mut Markup,
@@ -154,6 +169,9 @@ fn draw_calls(
     }
     for stand in &lane.stands {
         draw_stand(alloc, picture, layout, lane, &stand.span)?;
+    }
+    for span in &lane.sleeps {
+        draw_sleep(alloc, picture, layout, lane, span)?;
     }
     Ok(())
 }

@@ -18,6 +18,7 @@ pub enum Sign {
     Wake,
     WakeOfNobody,
     Stand,
+    Asleep,
     WriteHold,
     ReadHold,
     Sight,
@@ -25,7 +26,7 @@ pub enum Sign {
 }
 
 /// All signs, in the order in which a legend has them.
-pub const SIGNS: [Sign; 13] = [
+pub const SIGNS: [Sign; 14] = [
     Sign::Look,
     Sign::Done,
     Sign::Failed,
@@ -35,6 +36,7 @@ pub const SIGNS: [Sign; 13] = [
     Sign::Wake,
     Sign::WakeOfNobody,
     Sign::Stand,
+    Sign::Asleep,
     Sign::WriteHold,
     Sign::ReadHold,
     Sign::Sight,
@@ -65,6 +67,7 @@ fn meaning(sign: Sign) -> &'static str {
         Sign::Wake => "a wake",
         Sign::WakeOfNobody => "a wake, nobody waits",
         Sign::Stand => "waits at a closure",
+        Sign::Asleep => "asleep",
         Sign::WriteHold => "holds, alone",
         Sign::ReadHold => "holds, to read",
         Sign::Sight => "refused call saw last",
@@ -87,6 +90,7 @@ fn drawn(alloc: Global, sign: Sign, left: u64, top: u64) -> Result<Opening, Allo
         Sign::Failed => cross(alloc, left + 8, middle),
         Sign::Written => rect(alloc, "done", left + 3, top + 1, 10, 10),
         Sign::Stand => rect(alloc, "stand", left, top, 16, 12),
+        Sign::Asleep => rect(alloc, "waiting", left, top, 16, 12),
         Sign::WriteHold => rect(alloc, "writer", left + 5, top, 5, 12),
         Sign::ReadHold => rect(alloc, "reader", left + 5, top, 5, 12),
         Sign::Sight => circle(alloc, "last", left + 8, middle, 7),

@@ -4,6 +4,7 @@ use draw_layout::label::{Mark, mark_of, reach_of};
 use draw_layout::lane::{Hold, Lane, Span, Stand};
 use draw_layout::layout::Layout;
 use draw_story::story::{Story, StoryStep};
+use draw_story::told::{Aside, Deed};
 use model_events::event::Act;
 use model_events::hold::HoldKind;
 use std::alloc::{AllocError, Global};
@@ -75,6 +76,7 @@ fn is_open(calls: &[Span]) -> bool {
 fn is_on_lane(lane: &Lane, sign: Sign) -> bool {
     match sign {
         Sign::Stand => !lane.stands.is_empty(),
+        Sign::Asleep => !lane.sleeps.is_empty(),
         Sign::WriteHold => has_kind(&lane.holds, HoldKind::Write),
         Sign::ReadHold => has_kind(&lane.holds, HoldKind::Read),
         Sign::Sight => !lane.sights.is_empty(),
@@ -103,6 +105,16 @@ fn is_at_steps<T: Copy>(steps: &[StoryStep<T>], layout: &Layout, sign: Sign) -> 
     false
 }
 
+/// Whether a sign is at a step on a variable.
+fn is_at_asides(asides: &[Aside], sign: Sign) -> bool {
+    let deed = match sign {
+        Sign::Read | Sign::Look => Deed::Reads,
+        Sign::Write | Sign::Written => Deed::Sets,
+        _ => return false,
+    };
+    asides.iter().any(|aside| aside.deed == deed)
+}
+
 /// The signs that a picture uses, in the order of the legend.
 pub fn signs_of<T: Copy>(
     alloc: Global,
@@ -111,7 +123,10 @@ pub fn signs_of<T: Copy>(
 ) -> Result<Vec<Sign>, AllocError> {
     let mut signs = Vec::new(alloc);
     for sign in SIGNS {
-        if is_on_lanes(layout, sign) || is_at_steps(&story.steps, layout, sign) {
+        if is_on_lanes(layout, sign)
+            || is_at_steps(&story.steps, layout, sign)
+            || is_at_asides(&story.asides, sign)
+        {
             signs.push(sign)?;
         }
     }

@@ -80,6 +80,7 @@ fn last_lines<T: TextInteger>(
 fn play_group<T: TextInteger>(
     alloc: Global,
     text: &[u8],
+    moves: &[u8],
     group: &Group<'_, T>,
     rest: &mut Rest<'_, T>,
 ) -> Result<Story<T>, TextFault>
@@ -109,14 +110,24 @@ fn play_group<T: TextInteger>(
     )? {
         None => {
             let last = last_lines(alloc, setting.shown, &room)?;
-            Ok(story_of(alloc, text, objects, setting.parties, &titles, &rows, last)?)
+            Ok(story_of(
+                alloc,
+                text,
+                moves,
+                objects,
+                setting.parties,
+                &titles,
+                &rows,
+                last,
+            )?)
         }
         Some(found) => Err(TextFault::from(found)),
     }
 }
 
-/// Plays a text of several objects whose values are of this type: what its steps were, or the fault of its first faulty line.
-pub fn play<T: TextInteger>(alloc: Global, text: &[u8]) -> Result<Story<T>, TextFault>
+/// Plays a text of several objects whose values are of this type: what its steps were, and what is told beside them in these lines; or the fault
+/// of its first faulty line.
+pub fn play<T: TextInteger>(alloc: Global, text: &[u8], moves: &[u8]) -> Result<Story<T>, TextFault>
     ensures told { IfOk result (λ story. HasTold (rows_of T.arithmetic T.numerals (lines_of text.now)) story) }
     ensures opened { IfOk result (λ story. OfOpened T.numerals (lines_of text.now) (λ found. IsOfOpened T.arithmetic found story)) }
     ensures left_out { IfOk result (λ story. story.left_out ≡ meaning.left_out (rows_of T.arithmetic T.numerals (lines_of text.now)).rows) }
@@ -125,6 +136,6 @@ pub fn play<T: TextInteger>(alloc: Global, text: &[u8]) -> Result<Story<T>, Text
     ensures fault { IfErr result (λ e. IsFaultOf e (room_output T.arithmetic T.numerals (lines_of text.now))) }
 {
     let (group, mut rest) = open::<T, Global>(alloc, text)?;
-    let story = play_group(alloc, text, &group, &mut rest)?;
+    let story = play_group(alloc, text, moves, &group, &mut rest)?;
     Ok(story)
 }

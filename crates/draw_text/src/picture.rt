@@ -134,37 +134,38 @@ fn document(
     Ok(bytes.into_bytes())
 }
 
-/// The picture of a text of one object whose values are of this type.
-fn draw_typed<T: TextInteger>(alloc: Global, text: &[u8]) -> Result<Vec<u8>, TextFault>
+/// The picture of a text of one object whose values are of this type, with the moves that are told beside it.
+fn draw_typed<T: TextInteger>(alloc: Global, text: &[u8], moves: &[u8]) -> Result<Vec<u8>, TextFault>
     ensures drawn { IfOk result (λ bytes. IsPictureOfRows (single.rows_of T.arithmetic T.numerals (lines_of text.now)) bytes.items) }
     ensures played { OnOk result (HasOutput (typed_output T.arithmetic T.numerals (lines_of text.now))) }
     ensures fault { IfErr result (λ e. IsFaultOf e (typed_output T.arithmetic T.numerals (lines_of text.now))) }
 {
-    let story = play::<T>(alloc, text)?;
+    let story = play::<T>(alloc, text, moves)?;
     let picture = draw(alloc, &story)?;
     Ok(picture)
 }
 
-/// The picture of a text of several objects whose values are of this type.
-fn draw_several<T: TextInteger>(alloc: Global, text: &[u8]) -> Result<Vec<u8>, TextFault>
+/// The picture of a text of several objects whose values are of this type, with the moves that are told beside it.
+fn draw_several<T: TextInteger>(alloc: Global, text: &[u8], moves: &[u8]) -> Result<Vec<u8>, TextFault>
     ensures drawn { IfOk result (λ bytes. IsPictureOfRows (several.rows_of T.arithmetic T.numerals (lines_of text.now)) bytes.items) }
     ensures played { OnOk result (HasOutput (room_output T.arithmetic T.numerals (lines_of text.now))) }
     ensures fault { IfErr result (λ e. IsFaultOf e (room_output T.arithmetic T.numerals (lines_of text.now))) }
 {
-    let story = several::play::<T>(alloc, text)?;
+    let story = several::play::<T>(alloc, text, moves)?;
     let picture = draw(alloc, &story)?;
     Ok(picture)
 }
 
-/// The picture of a text of one object or of several, or the fault of its first faulty line.
-pub fn draw_text(alloc: Global, text: &[u8]) -> Result<Vec<u8>, TextFault>
+/// The picture of a text of one object or of several, or the fault of its first faulty line. Moves that are told beside it, in lines such as
+/// `# 1 sets ready 1`, are drawn where they come.
+pub fn draw_text(alloc: Global, text: &[u8], moves: &[u8]) -> Result<Vec<u8>, TextFault>
     ensures drawn { IfOk result (λ bytes. IsPictureOf text.now bytes.items) }
     ensures played { OnOk result (HasOutput (output_of text.now)) }
     ensures fault { IfErr result (λ e. IsFaultOf e (output_of text.now)) }
 {
     if begins_several(text) {
-        by_value_type!(text, draw_several(alloc, text))
+        by_value_type!(text, draw_several(alloc, text, moves))
     } else {
-        by_value_type!(text, draw_typed(alloc, text))
+        by_value_type!(text, draw_typed(alloc, text, moves))
     }
 }

@@ -177,7 +177,7 @@ pub extern "C" fn page_draw(
     ensures drawn { told.new.status ≡ 0 → told.new.out ≤ length out.old → IsPictureOf text.now (take told.new.out out.new) }
 {
     begin(told);
-    match draw_text(alloc, text) {
+    match draw_text(alloc, text, b"") {
         Ok(picture) => told.out = put(out, &picture),
         Err(fault) => put_failed(alloc, &Failed::of_text(alloc, text, fault), error, told),
     }
