@@ -128,9 +128,9 @@ class Cases:
         run("share.focus()")
         self.press("Enter")
         self.seen("the address is copied", "share.textContent === 'copied'")
-        for object, call, holds in (("condvar", "lock", "holds"), ("rwreader", "write_lock", "writes")):
-            self.go(width, f"five parties at a {object}", f"#play/{object}+5/1+{call}/1+run/2+{call}/2+run")
-            self.seen("the buttons of the last", f"[...parties.querySelectorAll('[data-party=\"5\"] button')].at(-1)?.getBoundingClientRect().bottom <= {700 if touch else 800}")
+        for object, many, call, holds in (("condvar", 5, "lock", "holds"), ("rwreader", 5, "write_lock", "writes"), ("rwreader", 3, "write_lock", "writes"))[: 3 if width < 800 else 1]:
+            self.go(width, f"{many} parties at a {object}", f"#play/{object}+{many}/1+{call}/1+run/2+{call}/2+run")
+            self.seen("the buttons of the last", f"[...parties.querySelectorAll('[data-party=\"{many}\"] button')].at(-1)?.getBoundingClientRect().bottom <= {700 if touch and many > 3 else 800}")
             self.judge("what is small", not touch or run(f"{small}.map(it => it.textContent.slice(0, 20))"), not touch or [])
             self.judge("who has it, and the last line", run("[held.textContent.split('; ')[1], text.scrollHeight - text.scrollTop - text.clientHeight < 2]"), [f"party 1 {holds}.", True])
         self.browser.ask("Emulation.setTouchEmulationEnabled", enabled=False)
