@@ -22,7 +22,7 @@ import tempfile
 
 PAGE = "docs/play.html"
 WRITES = "python3 tools/play_page.py writes it"
-EXPORTS = "page_play", "page_trace", "page_draw", "page_explore"
+EXPORTS = "page_play", "page_trace", "page_draw", "page_explore", "page_moves"
 DATA_LAYOUT = 'target datalayout = "e-m:e-p:64:64-p10:8:8-p20:8:8-i64:64-i128:128-n32:64-S128-ni:1:10:20"'
 
 

@@ -41,6 +41,9 @@ def stored():
         status, fault, text = int(read(f"{stem}.status") or 0), read(f"{stem}.err") + read(f"{stem}.advice"), read(file)
         if "/explore/" in file:
             yield "explore", text, read(f"{stem}.out"), fault, status
+            picture = f"docs/pictures/{os.path.basename(stem)}.svg"
+            if os.path.exists(picture) and os.path.exists(f"{stem}.told"):
+                yield "draw", read(f"{stem}.told"), read(picture), "", 0
         else:
             yield "play", text, read(f"{stem}.out"), fault, status
             yield "trace", text, read(f"{stem}.trace"), fault, status
@@ -193,7 +196,7 @@ class Cases:
         run("scrollTo(0, 9999); answers.querySelector('button').click()")
         self.seen("it is played", "out.textContent.startsWith('1 success\\n') && mode() === 'play'")
         self.judge("where it is read", run("[text, picture].every(it => it.getBoundingClientRect().top >= 0 && it.getBoundingClientRect().top < innerHeight / 2)"), True)
-        lit = "out.querySelector('mark')?.textContent === '2 go 1\\n'"
+        lit = "out.querySelector('mark')?.textContent === '2 go 1\\n' && ['falls asleep', 'sets ready 1'].every(it => picture.textContent.includes(it))"
         for name, found in (("a lost wake", lit), ("Peterson's lock", "answers.textContent.includes('never: ')"), ("two philosophers", "out.querySelector('mark')?.textContent === '2 run\\n'")):
             run(f"[...document.querySelectorAll('nav a')].find(it => it.textContent === {json.dumps(name)}).click()")
             self.seen(name, f"mode() === 'explore' && {found}", 60)

@@ -373,9 +373,7 @@ impl Lane {
 
 /// The row in which a party that is asleep from a row on is woken.
 fn woken_at(asides: &[Aside], party: usize, from: u32) -> Option<u32> {
-    let wake = asides
-        .iter()
-        .find(|aside| aside.row > from && aside.deed == Deed::Wakes(party))?;
+    let wake = asides.iter().find(|aside| aside.row > from && aside.deed == Deed::Wakes(party))?;
     Some(wake.row)
 }
 
@@ -396,8 +394,11 @@ fn sleeps_of<T: Copy>(
     let mut sleeps = Vec::new(alloc);
     for aside in &story.asides {
         if aside.party == party && aside.deed == Deed::Sleeps {
-            let last = woken_at(&story.asides, party, aside.row)
-                .or(goes_on_at(&story.steps, party, aside.row));
+            let last = woken_at(&story.asides, party, aside.row).or(goes_on_at(
+                &story.steps,
+                party,
+                aside.row,
+            ));
             sleeps.push(Span {
                 first: aside.row,
                 last,

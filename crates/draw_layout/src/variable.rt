@@ -6,12 +6,19 @@ use std::alloc::{AllocError, Global};
 
 /// What is told of a variable in a move, if something is.
 fn told_of<'a>(aside: &'a Aside, name: &str) -> Option<&'a Holding> {
-    aside.held.iter().find(|holding| holding.name.as_str() == name)
+    aside
+        .held
+        .iter()
+        .find(|holding| holding.name.as_str() == name)
 }
 
 /// The row from which on a band shows what a move tells: the move's own where it changes the variable, and else the first.
 fn row_of(aside: &Aside) -> Option<u32> {
-    if aside.deed == Deed::Sets { Some(aside.row) } else { None }
+    if aside.deed == Deed::Sets {
+        Some(aside.row)
+    } else {
+        None
+    }
 }
 
 /// Adds what a move tells of a variable. A read tells it only where nothing is known before.
@@ -43,18 +50,11 @@ fn segments_of(alloc: Global, asides: &[Aside], name: &str) -> Result<Vec<Segmen
 
 /// Whether one of these bands is a variable's of this name.
 fn has_variable(bands: &[Band], name: &str) -> bool {
-    bands
-        .iter()
-        .any(|band| band.source == Source::Variable && band.name.as_str() == name)
+    bands.iter().any(|band| band.source == Source::Variable && band.name.as_str() == name)
 }
 
 /// The band of a variable, from this place on.
-fn variable_of(
-    alloc: Global,
-    asides: &[Aside],
-    name: &str,
-    left: u32,
-) -> Result<Band, AllocError> {
+fn variable_of(alloc: Global, asides: &[Aside], name: &str, left: u32) -> Result<Band, AllocError> {
     let segments = segments_of(alloc, asides, name)?;
     let name = String::from_str(alloc, name)?;
     let width = band_width(&name, &segments);

@@ -12,6 +12,7 @@ use Rattle.text_trace.specs.Trace.{RowsAndFault, rows_of}
 use Rattle.draw_story.specs.declared.story.StoryStep.{StoryStep}
 use Rattle.draw_story.specs.Story.{kept}
 use Rattle.draw_story.specs.Title.{title_words}
+use Rattle.draw_text.specs.Parts.{HasText}
 
 -- an `svg` element with all that is in it, in which the groups have these titles, and then the end of the line
 abbrev pub IsPicture : List (List ℕ) → List ℕ → Type 0
@@ -32,3 +33,7 @@ rows_in z numerals is_several lines = if is_several then several.rows_of z numer
 -- a picture of a text, by the type of its values
 unfoldable pub IsPictureOf : List ℕ → List ℕ → Type 0
 IsPictureOf text bytes = IsPictureOfRows (rows_in (values_in text).arithmetic (values_in text).numerals (begins_several (lines_of text)) (lines_of text)) bytes
+
+-- a picture of a text, behind which lines may tell its moves
+abbrev pub IsPictureOfPart : List ℕ → List ℕ → Type 0
+IsPictureOfPart read picture = (text : List ℕ) × HasText read text × IsPictureOf text picture

@@ -8,10 +8,12 @@ ghost use Rattle.std.specs.Prelude.{◌≡◌, ◌≤◌, ◌<◌, length, take,
 ghost use Rattle.own_play.specs.Output.{output_of};
 ghost use Rattle.text_lines.specs.Fault.{status_of};
 ghost use Rattle.text_trace.specs.Whole.{trace_of};
-ghost use Rattle.draw_text.specs.Picture.{IsPictureOf};
+ghost use Rattle.draw_text.specs.Picture.{IsPictureOfPart};
 ghost use Rattle.explore_client.specs.Report.{NoneIsMissing, IsNever};
 ghost use Rattle.explore_text.specs.declared.report.Scope.TheVariants as scopes;
+ghost use Rattle.sync_page.specs.Moves.{AreMovesOf};
 
+use draw_text::parts::parts_of;
 use draw_text::picture::draw_text;
 use explore_client::run::answer;
 use explore_client::unanswered::Unanswered;
@@ -165,7 +167,7 @@ pub extern "C" fn page_trace(
     }
 }
 
-/// Draws a text.
+/// Draws a text, and what is told of moves in lines behind it that begin with `#`.
 #[unsafe(no_mangle)]
 pub extern "C" fn page_draw(
     alloc: Global,
@@ -174,12 +176,13 @@ pub extern "C" fn page_draw(
     error: &mut [u8],
     told: &mut Told,
 )
-    ensures drawn { told.new.status ≡ 0 → told.new.out ≤ length out.old → IsPictureOf text.now (take told.new.out out.new) }
+    ensures drawn { told.new.status ≡ 0 → told.new.out ≤ length out.old → IsPictureOfPart text.now (take told.new.out out.new) }
 {
     begin(told);
-    match draw_text(alloc, text, b"") {
+    let (played, moves) = parts_of(text);
+    match draw_text(alloc, played, moves) {
         Ok(picture) => told.out = put(out, &picture),
-        Err(fault) => put_failed(alloc, &Failed::of_text(alloc, text, fault), error, told),
+        Err(fault) => put_failed(alloc, &Failed::of_text(alloc, played, fault), error, told),
     }
 }
 
@@ -209,5 +212,23 @@ pub extern "C" fn page_explore(
             told.status = u64::from(unanswered.fault.status());
             told.error = put_lines(alloc, &unanswered.fault, &unanswered.advice, error);
         }
+    }
+}
+
+/// Tells the moves of a question's answer, in the lines that `sync-explore --told` writes below it; nothing where it has none, or a fault.
+#[unsafe(no_mangle)]
+pub extern "C" fn page_moves(
+    alloc: Global,
+    text: &[u8],
+    out: &mut [u8],
+    error: &mut [u8],
+    told: &mut Told,
+)
+    ensures { 0 < told.new.out → told.new.out ≤ length out.old → AreMovesOf text.now (take told.new.out out.new) }
+{
+    begin(told);
+    let mut watch = Unwatched;
+    if let Ok(found) = answer(alloc, text, true, &mut watch) {
+        told.out = put(out, &found.moves);
     }
 }
