@@ -1,5 +1,5 @@
 -- What several files of the proofs read.
-pub use Rattle.std.proofs.Common.{◌≡◌, ℕ, Bool, true, false, List, Result, IfOk, Vec, Global, subst, take, ◌+◌, ◌∙◌, sym, ap, arith, rules, refl, length}
+pub use Rattle.std.proofs.Common.{◌≡◌, ℕ, Bool, true, false, List, [], Result, IfOk, Vec, Global, subst, take, ◌+◌, ◌∙◌, sym, ap, arith, rules, refl, length}
 pub use Rattle.text_lines.specs.declared.value_type.ValueType.{ValueType}
 pub use Rattle.draw_text.specs.Picture.{IsPictureOfRows, rows_in, step_titles, IsPicture}
 unfoldable pub use Rattle.draw_text.specs.Picture.{IsPictureOf}

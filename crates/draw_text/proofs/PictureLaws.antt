@@ -1,5 +1,5 @@
--- A picture of a text is one of its lines, with values of its type.
-use Rattle.draw_text.proofs.Names.{◌≡◌, ℕ, Bool, List, Result, IfOk, Vec, Global, subst, ValueType, IsPictureOfRows, rows_in, IsPictureOf}
+-- A picture of a text is one of its lines, with values of its type; and of no line it is said that it tells no move.
+use Rattle.draw_text.proofs.Names.{◌≡◌, ◌∙◌, sym, ap, ℕ, Bool, true, List, [], are_told, Result, IfOk, Vec, Global, subst, ValueType, IsPictureOfRows, rows_in, IsPictureOf}
 use Rattle.text_lines.specs.declared.fault.TextFault.{TextFault}
 use Rattle.text_lines.specs.Lexer.{lines_of}
 use Rattle.text_lines.specs.ValueTypes.{type_of_lines, meaning_of}
@@ -11,3 +11,6 @@ unfolding IsPictureOf
 drawn_at t is_several text r e f h =
     subst (λ (s : ValueType). IfOk r (λ bytes. IsPictureOfRows (rows_in (meaning_of s).arithmetic (meaning_of s).numerals (begins_several (lines_of text)) (lines_of text)) bytes.items)) e
     (subst (λ (b : Bool). IfOk r (λ bytes. IsPictureOfRows (rows_in (meaning_of t).arithmetic (meaning_of t).numerals b (lines_of text)) bytes.items)) f h)
+
+pub none_left : (all left : List (List ℕ)) → are_told all ≡ are_told left → left ≡ [] → true ≡ are_told all
+none_left all left same empty = sym (same ∙ ap are_told empty)

@@ -1,5 +1,5 @@
 //! A text, and the moves that are told behind it.
-ghost use Rattle.std.specs.Prelude.{◌≡◌, ◌++◌, true};
+ghost use Rattle.std.specs.Prelude.{◌≡◌, ◌≤◌, ◌++◌, length, true};
 ghost use Rattle.text_lines.specs.Lexer.{lines_of};
 ghost use Rattle.draw_text.specs.Parts as meaning;
 
@@ -30,7 +30,9 @@ fn are_told(lines: &[u8]) -> bool
 }
 
 /// Where the first line that tells a move begins.
-fn mark_at(text: &[u8]) -> usize {
+fn mark_at(text: &[u8]) -> usize
+    ensures { result ≤ length text.now }
+{
     for at in 0..text.len() {
         if text[at] == b'#' && (at == 0 || text[at - 1] == b'\n') {
             return at;

@@ -135,7 +135,11 @@ fn document(
 }
 
 /// The picture of a text of one object whose values are of this type, with the moves that are told beside it.
-fn draw_typed<T: TextInteger>(alloc: Global, text: &[u8], moves: &[u8]) -> Result<Vec<u8>, TextFault>
+fn draw_typed<T: TextInteger>(
+    alloc: Global,
+    text: &[u8],
+    moves: &[u8],
+) -> Result<Vec<u8>, TextFault>
     ensures drawn { IfOk result (λ bytes. IsPictureOfRows (single.rows_of T.arithmetic T.numerals (lines_of text.now)) bytes.items) }
     ensures played { OnOk result (HasOutput (typed_output T.arithmetic T.numerals (lines_of text.now))) }
     ensures fault { IfErr result (λ e. IsFaultOf e (typed_output T.arithmetic T.numerals (lines_of text.now))) }
@@ -146,7 +150,11 @@ fn draw_typed<T: TextInteger>(alloc: Global, text: &[u8], moves: &[u8]) -> Resul
 }
 
 /// The picture of a text of several objects whose values are of this type, with the moves that are told beside it.
-fn draw_several<T: TextInteger>(alloc: Global, text: &[u8], moves: &[u8]) -> Result<Vec<u8>, TextFault>
+fn draw_several<T: TextInteger>(
+    alloc: Global,
+    text: &[u8],
+    moves: &[u8],
+) -> Result<Vec<u8>, TextFault>
     ensures drawn { IfOk result (λ bytes. IsPictureOfRows (several.rows_of T.arithmetic T.numerals (lines_of text.now)) bytes.items) }
     ensures played { OnOk result (HasOutput (room_output T.arithmetic T.numerals (lines_of text.now))) }
     ensures fault { IfErr result (λ e. IsFaultOf e (room_output T.arithmetic T.numerals (lines_of text.now))) }
