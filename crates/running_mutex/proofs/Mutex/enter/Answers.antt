@@ -1,5 +1,5 @@
-use Rattle.running_mutex.proofs.Names.{Answer, HoldKind, Call, all_of, Beginning, spun, parties_of, mutex_model, ◌≡◌, Some, None, MatchBool, refl, sym, ap, subst, ◌∙◌, MatchBool-at_true, MatchBool-at_false, true≢false, is_over, either_is_over, HasPlayed, HasEntered, IsLocked, HasAskedToLock, IsItsWord, HasMutex, WasRefused}
-use Rattle.std.proofs.Common.{inl, inr}
+use Rattle.running_mutex.proofs.Names.{Answer, HoldKind, Call, all_of, Beginning, spun, parties_of, mutex_model, Some, None, MatchBool, refl, sym, ap, subst, ◌∙◌, MatchBool-at_true, MatchBool-at_false, true≢false, is_over, either_is_over, HasPlayed, HasEntered, IsLocked, HasAskedToLock, IsItsWord, WasRefused}
+use Rattle.std.proofs.Common.{inl}
 use Rattle.running_mutex.proofs.MutexPlays.{lock_begins, may_lock, lock_first, granted_has}
 use Rattle.running_mutex.proofs.MutexTries.{locks_once, ends, asks_to_lock, state_named}
 use Rattle.running_mutex.proofs.Mutex.enter.Goals as goal

@@ -1,7 +1,7 @@
 use Rattle.running_semaphore.proofs.Names.{Call, Answer, IsWhole, AskedForPermit, all_of, spun, parties_of, semaphore_model, MatchBool, refl, sym, ap, subst, ◌∙◌, MatchBool-at_true, MatchBool-at_false, is_over, either_is_over, Waiting, HasTaken, HasPlayed, initial_of}
 use Rattle.running_semaphore.proofs.SemaphorePlays.{may_wait, wait_begins}
 use Rattle.running_semaphore.proofs.Asked.{asked_later, may_again}
-use Rattle.std.proofs.Common.{inl, inr}
+use Rattle.std.proofs.Common.{inl}
 use Rattle.running_semaphore.proofs.Semaphore.enter.Goals as goal
 
 pub first_take-requires-clause-comes : goal.first_take-requires-clause-comes
