@@ -1,6 +1,6 @@
 -- What contracts see of a condition variable and its pass, and what a call changes in a pass.
 use Rattle.std.specs.Prelude.{◌≡◌, ◌<◌, ℕ, Bool, MatchBool, Option, Some, None}
-use Rattle.running_condvar.specs.Names.{Bor, Shared, Once, FnOnceReturnsAt, WaitAction, Part, IsWhole, HasLooked, IsSamePass, part_of, sights_of, MayAnswerAbort, HasAsked, counts_of, parties_of, Parties, HasCalled, Call, Answer, HoldKind, mutex_model, HasMoved, WasRefused, Holds, granted, released, gave, IsPassOf, HasSeen, HasDone, SemPass, IsSemPass, IsEmpty, HasTaken, worth_of, HasPlayed, HasPlayedPost, initial_of}
+use Rattle.running_condvar.specs.Names.{Bor, Mut, Shared, Once, FnOnceReturnsAt, WaitAction, Part, IsWhole, HasLooked, IsSamePass, part_of, sights_of, MayAnswerAbort, HasAsked, counts_of, parties_of, Parties, HasCalled, Call, Answer, HoldKind, mutex_model, HasMoved, WasRefused, Holds, granted, released, gave, IsPassOf, HasSeen, HasDone, SemPass, IsSemPass, IsEmpty, AskedForPermit, HasTaken, worth_of, HasPlayed, HasPlayedPost, initial_of}
 use Rattle.running_passes.specs.declared.wait.WaitResult.{WaitResult}
 use Rattle.running_passes.specs.declared.wait.WaitResult.TheVariants.{Success, Interrupted}
 use Rattle.running_mutex.specs.MutexParties.{Unlocks}
@@ -103,10 +103,25 @@ HasTakenOne c p q = TakesOne (initial_of c.semaphore) (permits_in p) (permits_in
 abbrev pub HasNotTaken : {A S F W : Type 0} → ConditionVariable A S → Shared F (Bor W × (Bor ℕ × Unit {0})) WaitAction → F → CondPass → CondPass → Type 0
 HasNotTaken c g wait p q = TakesNone g wait (initial_of c.semaphore) (permits_in p) (permits_in q)
 
--- whether one was taken
-pub record HasSlept {F W : Type 0} (g : Shared F (Bor W × (Bor ℕ × Unit {0})) WaitAction) (wait : F) (initial : ℕ) (took : Bool) (p q : SemPass) : Type 0 where
-  pub came : MatchBool took (TakesOne initial p q) (TakesNone g wait initial p q)
+-- How a counted wait slept: whether a permit was taken; and what it asked its wait closure, of this word, from wait on, and nothing beside.
+pub record HasSlept {F X : Type 0} (g : Mut F (Bor X × (Bor ℕ × Unit {0})) WaitAction) (shown : X) (wait after : F) (initial : ℕ) (took : Bool) (p q : SemPass) : Type 0 where
+  pub came : MatchBool took (TakesOne initial p q) (WasRefused IsEmpty 10002 p q × HasPlayed initial Call.Wait Answer.Interrupted p q)
   pub worth : IsWhole (part_of p) → MatchBool took (0 < worth_of p) (worth_of p ≡ 0)
+  pub asked : AskedForPermit g shown wait after took p q
+
+-- its closure is there, and may be called
+abbrev pub IsAwake : {F : Type 0} → (F → Type 0) → Option F → Type 0
+IsAwake may (Some wait) = may wait
+IsAwake may None = ⊥
+
+-- so, where its closure lay
+pub record SleepsBy {F X : Type 0} (g : Mut F (Bor X × (Bor ℕ × Unit {0})) WaitAction) (may : F → Type 0) (shown : X) (initial : ℕ) (took : Bool) (before now : Option F) (p q : SemPass) : Type 0 where
+  pub wait : F
+  pub after : F
+  pub was : before ≡ Some wait
+  pub left : now ≡ Some after
+  pub again : may after
+  pub slept : HasSlept g shown wait after initial took p q
 
 -- the hold, which was on, went off, and is on again by one more grant
 pub record Regains (part : Part) (t u : Holds) (last : ℕ) : Type 0 where

@@ -26,12 +26,12 @@ pub use Rattle.running_passes.specs.Views.{sum_of, IsCounted, wrote, looked}
 pub use Rattle.running_passes.specs.declared.part.Part.{Part}
 pub use Rattle.running_passes.specs.declared.pass.Pass.{Pass}
 pub use Rattle.running_passes.specs.declared.view.View.{View}
-pub use Rattle.running_semaphore.specs.SemaphoreShown.{SemPass, IsSemPass, IsEmpty, HasTaken, worth_of, HasPlayed, HasPlayedPost, initial_of}
+pub use Rattle.running_semaphore.specs.SemaphoreShown.{SemPass, IsSemPass, IsEmpty, AskedForPermit, HasTaken, worth_of, HasPlayed, HasPlayedPost, initial_of}
 pub use Rattle.running_semaphore.specs.SemaphoreSteps.{gave}
 pub use Rattle.running_for_one.specs.ForOne.{granted, released}
 pub use Rattle.running_mutex.specs.Mutex.{mutex_model}
 pub use Rattle.running_for_one.specs.declared.Holds.{Holds}
 pub use Rattle.std.proofs.Common.{cond, refl, arith, zero, suc}
 pub use Rattle.std.specs.Borrow.{Bor}
-pub use Rattle.std.specs.Fn.{Shared, Once, FnOnceReturnsAt}
+pub use Rattle.std.specs.Fn.{Mut, Shared, Once, FnOnceReturnsAt}
 pub use Rattle.std.specs.Prelude.{min}

@@ -5,16 +5,15 @@
 //! anew. Its count of those that wait plays a model of its own.
 #![tactic(auto)]
 
-ghost use Rattle.std.specs.Prelude.{◌≡◌, true, false, MatchBool, IfOk, Some, None};
+ghost use Rattle.std.specs.Prelude.{◌≡◌, true, IfOk, Some, None};
 ghost use Rattle.model_events.specs.declared.event.Call.TheVariants as calls;
 ghost use Rattle.model_events.specs.declared.event.Answer.TheVariants as answers;
 ghost use Rattle.model_events.specs.declared.hold.HoldKind.TheVariants as kinds;
 ghost use Rattle.running_passes.specs.Answers.{MayAnswerAbort};
-ghost use Rattle.running_model.specs.Counts.{HasGivenUp};
 ghost use Rattle.running_model.specs.Passes.{parties_of, counts_of};
 ghost use Rattle.running_model.specs.Stages.{count_of};
 ghost use Rattle.running_semaphore.specs.SemaphoreShown.{initial_of};
-ghost use Rattle.running_mutex.specs.MutexShown.{IsMutexPass, IsAlone, IsLocked, HasEntered, HasPlayed};
+ghost use Rattle.running_mutex.specs.MutexShown.{IsMutexPass, IsLocked};
 ghost use Rattle.running_mutex.specs.MutexParties.{HasMutex};
 ghost use Rattle.running_condvar.specs.CondParties.{HasWaitInside};
 ghost use Rattle.running_condvar.specs.Cond.{CountIsInside};
@@ -62,6 +61,12 @@ pub struct CondPass {
 pub struct CountedWait<'p> {
     turn: &'p Turn<'p, Pass<PlayedWaits>, Goes>,
     ghost inside: { HasWaitInside (parties_of turn.now.pass.now) },
+}
+
+/// What a wait has while it is counted: the pass of the permits, and its wait closure, but for where that is asked.
+struct Asleep<'q, W> {
+    permits: &'q mut SemPass,
+    wait: &'q mut Option<W>,
 }
 
 /// What a wait came to that has the mutex again.
@@ -175,6 +180,7 @@ impl<A: Allocator, S> ConditionVariable<A, S> {
     ghost use Rattle.running_passes.specs.Parts.{IsWhole};
     ghost use Rattle.running_model.specs.Stages.{IsPassOf};
     ghost use Rattle.running_model.specs.Turns.{given_by};
+    ghost use Rattle.running_model.specs.Asked.{WokeOnce};
     ghost use Rattle.running_model.specs.Counts.{HasSeen, HasDone};
     ghost use Rattle.running_passes.specs.Passes.{view, part_of};
     ghost use Rattle.running_passes.specs.Views.{first_view};
@@ -185,9 +191,8 @@ impl<A: Allocator, S> ConditionVariable<A, S> {
     ghost use Rattle.running_condvar.specs.Cond.{no_waits, went_in, went_out, one_more};
     ghost use Rattle.running_condvar.specs.CondParties.{IsInside, IsOut, Plays};
     ghost use Rattle.running_semaphore.specs.SemaphoreShown.{IsSemPass, IsItsWord, worth_of};
-    ghost use Rattle.running_mutex.specs.MutexShown.{HasPlayedUnlock};
-    ghost use Rattle.running_mutex.specs.MutexShown.{mutex_row, holds_of, pass_of, borrow_of, HasUnlocked};
-    ghost use Rattle.running_condvar.specs.CondShown.{IsCondPass, IsPermitsWord, waits_in, permits_in, HasGiven, HasNotified, held_by, woken_of, IfSignalled, IfUnsignalled, HasWaited, HasTakenOne, HasNotTaken, HasSlept, HasRegained, HasLeft, LeavesCounted, HasPlayedAgain};
+    ghost use Rattle.running_mutex.specs.MutexShown.{mutex_row, holds_of, pass_of, borrow_of, HasUnlocked, HasPlayedUnlock, IsItsWord as IsMutexWord};
+    ghost use Rattle.running_condvar.specs.CondShown.{IsCondPass, IsPermitsWord, waits_in, permits_in, HasGiven, HasNotified, held_by, woken_of, IfSignalled, IfUnsignalled, HasWaited, HasTakenOne, HasNotTaken, HasSlept, IsAwake, SleepsBy, HasRegained, HasLeft, LeavesCounted, HasPlayedAgain};
 
     /// A condition variable at which nobody waits, and the pass that is whole. `Err` where there was no memory; then nothing was made.
     pub fn new(alloc: A) -> Result<(ConditionVariable<A, S>, CondPass), AllocError>
@@ -289,7 +294,7 @@ impl<A: Allocator, S> ConditionVariable<A, S> {
         ensures woke { HasWoken K.Fn mtx_wake_one }
     {
         let MutexHold { pass: mtx_pass } = hold;
-        let signalled = this.unlock_and_sleep(
+        let (signalled, _, _) = this.unlock_and_sleep(
             rt,
             &mut pass.waits,
             &mut pass.permits,
@@ -297,9 +302,10 @@ impl<A: Allocator, S> ConditionVariable<A, S> {
             mtx_pass,
             mtx_wake_one,
             &this.word(),
-            &wait,
+            wait,
         );
-        if !lock_again(mtx_pass, mtx, rt, mtx_wait) {
+        let (locked, _) = mtx.enter(rt, mtx_pass, mtx_wait);
+        if !locked {
             return WaitResult::Interrupted;
         }
         if signalled {
@@ -355,7 +361,7 @@ impl<A: Allocator, S> ConditionVariable<A, S> {
     }
 
     /// Counts the wait in, calls `leave`, by which its caller lets a lock of its own go, waits for a permit as the semaphore's `wait` does,
-    /// and counts the wait out. What `leave` gave, and `Success` where a permit was taken.
+    /// and counts the wait out. What `leave` gave, whether a permit was taken, and the wait closure.
     ///
     /// It serves a lock of another kind than the mutex. `leave` is handed what only a counted wait has, so a notify that comes once the
     /// lock is free sees the wait. The lock is the caller's to take again.
@@ -365,36 +371,31 @@ impl<A: Allocator, S> ConditionVariable<A, S> {
         R: Wait,
         Y,
         F: FnOnce(&CountedWait<'_>) -> Y,
-        W: Fn(&X, &u64) -> WaitAction,
+        W: FnMut(&X, &u64) -> WaitAction,
     >(
         &self,
         rt: &R,
         cond_pass: &mut CondPass,
         leave: F,
         word: &Sealed<X>,
-        wait: &W,
-    ) -> (Y, WaitResult<()>)
+        wait: W,
+    ) -> (Y, bool, W)
         requires own { IsCondPass self.now cond_pass.old }
         requires its { IsPermitsWord self.now (X.object word.now.shown) (X.index word.now.shown) }
-        requires may { F.IsAlwaysCallable leave × W.IsAlwaysCallable wait.now }
+        requires may { F.IsAlwaysCallable leave × W.IsAlwaysCallable wait }
+        ensures may_again { W.IsAlwaysCallable result.2 }
         ensures left { LeavesCounted F.FnOnce leave result.0 }
         ensures counted { HasWaited cond_pass.old cond_pass.new }
-        ensures signalled { IfSuccess result.1 (λ _. HasTakenOne self.now cond_pass.old cond_pass.new) }
-        ensures unsignalled { IfInterrupted result.1 (HasNotTaken self.now W.Fn wait.now cond_pass.old cond_pass.new) }
+        ensures slept { HasSlept W.FnMut word.now.shown wait result.2 (initial_of self.now.semaphore) result.1 (permits_in cond_pass.old) (permits_in cond_pass.new) }
     {
-        let (left, signalled) = self.leave_and_sleep(
+        self.leave_and_sleep(
             rt,
             &mut cond_pass.waits,
             &mut cond_pass.permits,
             leave,
             word,
             wait,
-        );
-        if signalled {
-            (left, WaitResult::Success(()))
-        } else {
-            (left, WaitResult::Interrupted)
-        }
+        )
     }
 
     /// The word of the permits, as wait closures see it, sealed.
@@ -405,14 +406,14 @@ impl<A: Allocator, S> ConditionVariable<A, S> {
         self.semaphore.word()
     }
 
-    /// What `wait_around` does, and whether a permit was taken.
+    /// What `wait_around` does.
     #[inline(always)]
     fn leave_and_sleep<
         X: Shown,
         R: Wait,
         Y,
         F: FnOnce(&CountedWait<'_>) -> Y,
-        W: Fn(&X, &u64) -> WaitAction,
+        W: FnMut(&X, &u64) -> WaitAction,
     >(
         &self,
         rt: &R,
@@ -420,31 +421,38 @@ impl<A: Allocator, S> ConditionVariable<A, S> {
         permits: &mut SemPass,
         leave: F,
         word: &Sealed<X>,
-        wait: &W,
-    ) -> (Y, bool)
+        wait: W,
+    ) -> (Y, bool, W)
         requires own { IsPassOf self.now.number_of_waiters waits.old × IsSemPass self.now.semaphore permits.old }
         requires its { IsItsWord self.now.semaphore (X.object word.now.shown) (X.index word.now.shown) }
-        requires may { F.IsAlwaysCallable leave × W.IsAlwaysCallable wait.now }
+        requires may { F.IsAlwaysCallable leave × W.IsAlwaysCallable wait }
+        ensures may_again { W.IsAlwaysCallable result.2 }
         ensures left { LeavesCounted F.FnOnce leave result.0 }
         ensures counted { HasDone one_more waits.old waits.new }
         ensures played { Plays calls.Wait answers.Done (parties_of waits.old) (parties_of waits.new) }
-        ensures slept { HasSlept W.Fn wait.now (initial_of self.now.semaphore) result.1 permits.old permits.new }
+        ensures slept { HasSlept W.FnMut word.now.shown wait result.2 (initial_of self.now.semaphore) result.1 permits.old permits.new }
     {
         let counted = self.count_in(waits);
         let left = CountedWait { turn: &counted }.leave(leave);
-        let (signalled, _waits) = self.sleep(rt, counted, &left, permits, word, wait);
-        (left.into_given(), *signalled.given())
+        let mut waiting = Some(wait);
+        let (signalled, slept) = self.sleep(rt, counted, &left, permits, word, &mut waiting);
+        let _waits = self.count_out(slept);
+        match waiting {
+            Some(asked) => (left.into_given(), *signalled.given(), asked),
+            None => unreachable!(),
+        }
     }
 
-    /// What `wait_held` does until it locks the mutex again, and whether a permit was taken.
+    /// What `wait_held` does until it locks the mutex again, and whether a permit was taken. Gives both closures back.
     fn unlock_and_sleep<
         't,
         B: Allocator,
         Q,
+        Z: OfWord<MutexWord<'t>>,
         X: Shown,
         R: Wait,
-        K: Fn(&<Q as Shows<'t, MutexWord<'t>>>::As),
-        W: Fn(&X, &u64) -> WaitAction,
+        K: FnMut(&Z),
+        W: FnMut(&X, &u64) -> WaitAction,
     >(
         &self,
         rt: &R,
@@ -454,26 +462,29 @@ impl<A: Allocator, S> ConditionVariable<A, S> {
         mtx_pass: &mut MutexPass,
         mtx_wake_one: K,
         word: &Sealed<X>,
-        wait: &W,
-    ) -> bool
-    where
-        Q: Shows<'t, MutexWord<'t>>,
+        wait: W,
+    ) -> (bool, K, W)
         requires own { IsPassOf self.now.number_of_waiters waits.old × IsSemPass self.now.semaphore permits.old × IsMutexPass mtx.now mtx_pass.old }
         requires on { holds_of mtx_pass.old ≡ 1 }
         requires has { HasMutex (parties_of mtx_pass.old) }
         requires its { IsItsWord self.now.semaphore (X.object word.now.shown) (X.index word.now.shown) }
-        requires may { K.IsAlwaysCallable mtx_wake_one × W.IsAlwaysCallable wait.now }
+        requires may { K.IsAlwaysCallable mtx_wake_one × W.IsAlwaysCallable wait }
         ensures unlocked { HasUnlocked mtx_pass.old mtx_pass.new }
         ensures played_unlock { HasPlayedUnlock mtx_pass.old mtx_pass.new }
         ensures counted { HasDone one_more waits.old waits.new }
         ensures played { Plays calls.Wait answers.Done (parties_of waits.old) (parties_of waits.new) }
-        ensures slept { HasSlept W.Fn wait.now (initial_of self.now.semaphore) result permits.old permits.new }
-        ensures woke { HasWoken K.Fn mtx_wake_one }
+        ensures slept { HasSlept W.FnMut word.now.shown wait result.2 (initial_of self.now.semaphore) result.0 permits.old permits.new }
+        ensures woke { WokeOnce K.FnMut (λ seen. IsMutexWord mtx.now (Z.Shown.object seen) (Z.Shown.index seen)) mtx_wake_one result.1 }
     {
         let inside = self.count_in(waits);
         let left = CountedWait { turn: &inside }.unlock(mtx, mtx_pass, mtx_wake_one);
-        let (slept, _outside) = self.sleep(rt, inside, &left, permits, word, wait);
-        *slept.given()
+        let mut waiting = Some(wait);
+        let (signalled, slept) = self.sleep(rt, inside, &left, permits, word, &mut waiting);
+        let _waits = self.count_out(slept);
+        match waiting {
+            Some(asked) => (*signalled.given(), left.into_given(), asked),
+            None => unreachable!(),
+        }
     }
 
     /// How many are counted as waiting.
@@ -503,36 +514,39 @@ impl<A: Allocator, S> ConditionVariable<A, S> {
         counted
     }
 
-    /// Waits for a permit, as the counted wait is to do until it is counted out, and counts it out. Whether a permit was taken, and the pass of
-    /// the count.
+    /// Waits for a permit, as the counted wait is to do until it is counted out. Whether a permit was taken.
     #[inline(always)]
-    fn sleep<'p, Y, X: Shown, R: Wait, W: Fn(&X, &u64) -> WaitAction>(
+    fn sleep<'p, Y, X: Shown, R: Wait, W: FnMut(&X, &u64) -> WaitAction>(
         &self,
         rt: &R,
         counted: Turn<'p, Pass<PlayedWaits>, Goes>,
         left: &Left<Y>,
         permits: &mut SemPass,
         word: &Sealed<X>,
-        wait: &W,
-    ) -> (Ran<bool>, &'p mut Pass<PlayedWaits>)
+        wait: &mut Option<W>,
+    ) -> (Ran<bool>, Turn<'p, Pass<PlayedWaits>, AfterAside>)
         requires own { IsPassOf self.now.number_of_waiters counted.pass.now × IsSemPass self.now.semaphore permits.old }
         requires inside { (done : List (Slot ℕ)) × IsInside done (parties_of counted.pass.now) }
         requires its { IsItsWord self.now.semaphore (X.object word.now.shown) (X.index word.now.shown) }
-        requires may { W.IsAlwaysCallable wait.now }
-        ensures same_borrow { result.1.ghost_name ≡ counted.entry.pass.ghost_name }
-        ensures counted { HasDone went_out counted.entry.pass.now result.1.now }
-        ensures out { (done : List (Slot ℕ)) → IsInside done (parties_of counted.entry.pass.now) → IsOut done (parties_of result.1.now) }
-        ensures slept { HasSlept W.Fn wait.now (initial_of self.now.semaphore) (given_by result.0) permits.old permits.new }
+        requires awake { IsAwake W.IsAlwaysCallable wait.old }
+        ensures same_borrow { result.1.pass.ghost_name ≡ counted.entry.pass.ghost_name }
+        ensures still { result.1.pass.now ≡ counted.entry.pass.now }
+        ensures slept { SleepsBy W.FnMut W.IsAlwaysCallable word.now.shown (initial_of self.now.semaphore) (given_by result.0) wait.old wait.new permits.old permits.new }
     {
-        let (signalled, slept) = counted.run(
+        let mut asleep = Asleep { permits, wait };
+        let slept = counted.run(
             &self.number_of_waiters,
-            permits,
-            |permits: &mut SemPass| -> bool
-                requires { IsSemPass self.now.semaphore permits.old × IsItsWord self.now.semaphore (X.object word.now.shown) (X.index word.now.shown) × W.IsAlwaysCallable wait.now }
-                ensures { HasSlept W.Fn wait.entry.now (initial_of self.entry.now.semaphore) result permits.old permits.new }
-            { self.take(rt, left, permits, word, wait) },
+            &mut asleep,
+            |asleep: &mut Asleep<'_, W>| -> bool
+                requires { IsSemPass self.now.semaphore asleep.old.permits.now × IsItsWord self.now.semaphore (X.object word.now.shown) (X.index word.now.shown) × IsAwake W.IsAlwaysCallable asleep.old.wait.now }
+                ensures { (asleep.new.permits.ghost_name ≡ asleep.old.permits.ghost_name) × (asleep.new.wait.ghost_name ≡ asleep.old.wait.ghost_name) × SleepsBy W.FnMut W.IsAlwaysCallable word.entry.now.shown (initial_of self.entry.now.semaphore) result asleep.old.wait.now asleep.new.wait.now asleep.old.permits.now asleep.new.permits.now }
+            { self.take(rt, left, asleep.permits, word, asleep.wait) },
         );
-        (signalled, self.count_out(slept))
+        let Asleep {
+            permits: _,
+            wait: _,
+        } = asleep;
+        slept
     }
 
     /// Counts a wait out, once what it does while it is counted has ended.
@@ -553,48 +567,27 @@ impl<A: Allocator, S> ConditionVariable<A, S> {
 
     /// The semaphore's `wait`, and whether a permit was taken.
     #[inline(always)]
-    fn take<Y, X: Shown, R: Wait, W: Fn(&X, &u64) -> WaitAction>(
+    fn take<Y, X: Shown, R: Wait, W: FnMut(&X, &u64) -> WaitAction>(
         &self,
         rt: &R,
         _left: &Left<Y>,
         permits: &mut SemPass,
         word: &Sealed<X>,
-        wait: &W,
+        wait: &mut Option<W>,
     ) -> bool
         requires own { IsSemPass self.now.semaphore permits.old }
         requires its { IsItsWord self.now.semaphore (X.object word.now.shown) (X.index word.now.shown) }
-        requires may { W.IsAlwaysCallable wait.now }
-        ensures slept { HasSlept W.Fn wait.now (initial_of self.now.semaphore) result permits.old permits.new }
+        requires awake { IsAwake W.IsAlwaysCallable wait.old }
+        ensures slept { SleepsBy W.FnMut W.IsAlwaysCallable word.now.shown (initial_of self.now.semaphore) result wait.old wait.new permits.old permits.new }
     {
-        self.semaphore.enter(rt, permits, word, wait)
-    }
-}
-
-/// Locks the mutex, and tells whether it is locked.
-#[inline(always)]
-fn lock_again<
-    't,
-    A: Allocator,
-    Q,
-    R: Wait,
-    M: Fn(&<Q as Shows<'t, MutexWord<'t>>>::As, &u64) -> WaitAction,
->(pass: &mut MutexPass, mtx: &'t Mutex<A, Q>, rt: &R, mtx_wait: M) -> bool
-where
-    Q: Shows<'t, MutexWord<'t>>,
-    requires own { IsMutexPass mtx.now pass.old }
-    requires may { M.IsAlwaysCallable mtx_wait }
-    ensures locked { MatchBool result (HasEntered pass.old pass.new) (HasGivenUp M.Fn mtx_wait IsLocked pass.old pass.new) }
-    ensures played { MatchBool result (HasPlayed calls.Lock answers.Success (Some kinds.Write) pass.old pass.new) (HasPlayed calls.Lock answers.Interrupted None pass.old pass.new) }
-    ensures has { result ≡ true → HasMutex (parties_of pass.new) }
-    ensures exact { IsAlone pass.old → result ≡ true }
-    ensures aborted { result ≡ false → MayAnswerAbort M.Fn mtx_wait IsLocked }
-{
-    match Mutex::lock(pass, mtx, rt, mtx_wait) {
-        WaitResult::Success(hold) => {
-            let MutexHold { pass: _ } = hold;
-            true
+        match wait.take() {
+            Some(closure) => {
+                let (took, asked) = self.semaphore.enter(rt, permits, word, closure);
+                *wait = Some(asked);
+                took
+            }
+            None => unreachable!(),
         }
-        WaitResult::Interrupted => false,
     }
 }
 

@@ -11,7 +11,7 @@ ghost use Rattle.model_events.specs.declared.row.Intent.TheVariants as intents;
 ghost use Rattle.model_events.specs.declared.WaitAction.TheVariants as actions;
 ghost use Rattle.model_mutex.specs.declared.MutexPlace.TheVariants as places;
 ghost use Rattle.running_mutex.specs.Mutex.{mutex_model};
-ghost use Rattle.running_model.specs.Asked.{Asked};
+ghost use Rattle.running_model.specs.Asked.{Asked, WokeOnce};
 ghost use Rattle.running_model.specs.Slots.{Slot};
 ghost use Rattle.running_model.specs.Plays.{Beginning, MayStep};
 ghost use Rattle.running_model.specs.Tries.{spun, IsRefused, IsStanding, IsGranted, HasGivenUp as HasEndedRefused, OnceRefused, OnceStanding};
@@ -244,6 +244,33 @@ impl<T, A: Allocator> Guarded<T, A> {
         let turn = slot::release::<T, MutexScript, MutexPlace, UnlockCall>(shared, seat, value);
         let (woken, _wake_one) = turn.wake(&self.word(), wake_one);
         woken.end_aside()
+    }
+
+    /// The same by a closure that counts its calls. Gives it back.
+    #[inline(always)]
+    pub(crate) fn leave_by<W: FnMut(&GuardedWord<'_, T>)>(
+        &self,
+        seat: Seat<Option<T>, View<PlayedMutex>>,
+        value: T,
+        wake_one: W,
+    ) -> (Seat<Option<T>, View<PlayedMutex>>, W)
+        requires own { seat.table_id ≡ id_of self.now }
+        requires on { seat.me.0.tally.counts.holds ≡ 1 }
+        requires has { HasMutex seat.me.0.tally.parties }
+        requires alive { 0 < seat.me.0.part.share }
+        requires vacant { has_vacant_slot seat.me.1 ≡ true }
+        requires may { W.IsAlwaysCallable wake_one }
+        ensures may_again { W.IsAlwaysCallable result.1 }
+        ensures same { (result.0.table_id ≡ seat.table_id) × (result.0.id ≡ seat.id) }
+        ensures off { Lets seat.me.0 result.0.me.0 }
+        ensures played { PlaysUnlock seat.me.0 result.0.me.0 }
+        ensures no_slot { result.0.me.1 ≡ [] }
+        ensures woke { WokeOnce W.FnMut (λ word. object_shown word ≡ id_of self.now) wake_one result.1 }
+    {
+        let shared = &self.table.shared;
+        let turn = slot::release::<T, MutexScript, MutexPlace, UnlockCall>(shared, seat, value);
+        let (woken, wake) = turn.wake(&self.word(), wake_one);
+        (woken.end_aside(), wake)
     }
 
     /// Locks the value, yielding until it is there, and takes it out of its slot.

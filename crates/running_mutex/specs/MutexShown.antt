@@ -1,6 +1,10 @@
 -- What contracts see of a mutex, its pass and its hold, and what a call changes in a pass.
-use Rattle.std.specs.Prelude.{◌≡◌, ◌≢◌, ℕ, ◌+◌, ◌≤◌, Bool, Option, Some, MatchBool}
-use Rattle.running_mutex.specs.Names.{GName, Call, Answer, HoldKind, MutexPlace, mutex_model, Part, Pass, IsWhole, IsSamePass, part_of, sights_of, Played, Parties, Coming, HasCalled, Went, parties_of, counts_of, counted, HasMoved, Holds, MutexScript, RattleType, u64, IsPassOf}
+use Rattle.std.specs.Prelude.{◌≡◌, ◌≢◌, ◌⊎◌, ℕ, ◌+◌, ◌≤◌, Bool, true, Option, Some, MatchBool}
+use Rattle.running_mutex.specs.Names.{Bor, WaitAction, GName, Call, Answer, HoldKind, MutexPlace, mutex_model, Part, Pass, IsWhole, IsSamePass, part_of, sights_of, Played, Parties, Coming, HasCalled, Went, parties_of, counts_of, counted, HasMoved, Holds, MutexScript, RattleType, u64, IsPassOf}
+use Rattle.running_model.specs.Asked.{AskedAfter}
+use Rattle.running_model.specs.Stages.{id_of}
+use Rattle.atomic_table.specs.Seated.{TableId}
+use Rattle.std.specs.Fn.{Mut}
 use Rattle.running_passes.specs.contracts.pass.Pass.{the_row}
 use Rattle.running_model.specs.contracts.played.Played as played_row
 use Rattle.running_mutex.specs.contracts.script.MutexScript as script_row
@@ -21,6 +25,10 @@ mutex_row = the_row (played_row.the_row script_row.the_row place_row.the_row u64
 
 abbrev pub IsMutexPass : {A S : Type 0} → Mutex A S → MutexPass → Type 0
 IsMutexPass m p = IsPassOf m.stage p
+
+-- this is its word, by its object and which of that object's words it is
+abbrev pub IsItsWord : {A S : Type 0} → Mutex A S → TableId → ℕ → Type 0
+IsItsWord m object index = (object ≡ id_of m.stage) × (index ≡ 0)
 
 -- how many of the pass's holds stand: 0 or 1
 abbrev pub holds_of : MutexPass → ℕ
@@ -66,6 +74,12 @@ pub record Enters (part : Part) (t u : Holds) (last : ℕ) : Type 0 where
 -- the hold was off and is on, and nothing else changed but what was seen on the way
 abbrev pub HasEntered : MutexPass → MutexPass → Type 0
 HasEntered = HasMoved Enters
+
+-- What a `Lock` asked its wait closure, of such a word, from wait on, and nothing beside: nothing where it locked by itself. It looked 10001 times
+-- before, and once for each question.
+abbrev pub HasAskedToLock : {F X : Type 0} → Mut F (Bor X × (Bor ℕ × Unit {0})) WaitAction → (X → Type 0) → F → F → Bool → MutexPass → MutexPass → Type 0
+HasAskedToLock {X = X} g IsOf wait after locked p q =
+    ((locked ≡ true) × (wait ≡ after)) ⊎ ((word : X) × IsOf word × AskedAfter g word IsLocked 10001 wait after locked (Unit {0}) (sights_of p).count (sights_of q).count)
 
 -- The hold is as it was. On the way the pass may have been granted and unlocked, and have seen the mutex.
 pub record HasStayed (p q : MutexPass) : Type 0 where

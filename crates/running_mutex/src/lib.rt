@@ -19,7 +19,7 @@ use model_mutex::{MutexPlace, granted};
 use running_for_one::Holds;
 use running_model::calls::{LockCall, TryLockCall, UnlockCall};
 use running_model::turn::{
-    Attempt, Called, Continues, Goes, Turn, Way, begin_held, begin_new, try_again,
+    Attempt, Called, Continues, Goes, Turn, Way, begin_held, begin_new, try_again_by,
 };
 use running_model::{OfWord, OwnWords, Sealed, Shows, Stage};
 use running_passes::{Origin, Pass, WaitResult, Word};
@@ -83,9 +83,9 @@ impl<A: Allocator, S> Mutex<A, S> {
     ghost use Rattle.running_model.specs.Plays.{MayStep, Beginning};
     ghost use Rattle.running_model.specs.Passes.{played};
     ghost use Rattle.running_model.specs.Asked.{WokeOnce};
-    ghost use Rattle.running_model.specs.Counts.{HasGivenUp};
+    ghost use Rattle.running_model.specs.Counts.{HasGivenUp, WasRefused};
     ghost use Rattle.running_model.specs.Stages.{id_of};
-    ghost use Rattle.running_mutex.specs.MutexShown.{mutex_row, IsMutexPass, IsAlone, IsLocked, holds_of, grants_of, pass_of, borrow_of, HasLocked, HasSeenLocked, HasUnlocked, HasEntered, HasStayed, HasTried, HasPlayed, HasPlayedUnlock, HasPlayedBoth};
+    ghost use Rattle.running_mutex.specs.MutexShown.{mutex_row, IsMutexPass, IsItsWord, IsAlone, IsLocked, holds_of, grants_of, pass_of, borrow_of, HasLocked, HasSeenLocked, HasUnlocked, HasEntered, HasStayed, HasTried, HasPlayed, HasPlayedUnlock, HasPlayedBoth, HasAskedToLock};
 
     /// A mutex that is free, and the pass that is whole. `Err` where there was no memory; then nothing was made.
     pub fn new(alloc: A) -> Result<(Mutex<A, S>, MutexPass), AllocError>
@@ -117,14 +117,8 @@ impl<A: Allocator, S> Mutex<A, S> {
         ensures exact { IsAlone pass.old → IsSuccess result }
         ensures aborted { IfInterrupted result (MayAnswerAbort W.Fn wait IsLocked) }
     {
-        let (free, turn) = this.first::<LockCall>(pass);
-        if free {
-            let _pass = turn.end(&this.stage);
-            return WaitResult::Success(MutexHold { pass });
-        }
-        let (granted, last) = try_again(rt, turn, this, &this.word(), locked(), wait);
-        let _pass = last.end(&this.stage);
-        if granted {
+        let (locked, _) = this.enter(rt, pass, wait);
+        if locked {
             WaitResult::Success(MutexHold { pass })
         } else {
             WaitResult::Interrupted
@@ -205,6 +199,33 @@ impl<A: Allocator, S> Mutex<A, S> {
         }
     }
 
+    /// What `lock` does, by a closure that counts its calls, and whether the hold is on. Gives the closure back. It serves a call that locks
+    /// the mutex as a part of its own.
+    #[inline(always)]
+    pub fn enter<'t, X: OfWord<MutexWord<'t>>, R: Wait, W: FnMut(&X, &u64) -> WaitAction>(
+        &'t self,
+        rt: &R,
+        pass: &mut MutexPass,
+        wait: W,
+    ) -> (bool, W)
+        requires own { IsMutexPass self.now pass.old }
+        requires may { W.IsAlwaysCallable wait }
+        ensures entered { MatchBool result.0 (HasEntered pass.old pass.new) (WasRefused IsLocked 10002 pass.old pass.new) }
+        ensures played { MatchBool result.0 (HasPlayed calls.Lock answers.Success (Some kinds.Write) pass.old pass.new) (HasPlayed calls.Lock answers.Interrupted None pass.old pass.new) }
+        ensures has { result.0 ≡ true → HasMutex (parties_of pass.new) }
+        ensures exact { IsAlone pass.old → result.0 ≡ true }
+        ensures asked { HasAskedToLock W.FnMut (λ word. IsItsWord self.now (X.Shown.object word) (X.Shown.index word)) wait result.1 result.0 pass.old pass.new }
+    {
+        let (free, begun) = self.first::<LockCall>(pass);
+        if free {
+            let _pass = begun.end(&self.stage);
+            return (true, wait);
+        }
+        let (granted, last, asked) = try_again_by(rt, begun, self, &self.word(), locked(), wait);
+        let _pass = last.end(&self.stage);
+        (granted, asked)
+    }
+
     /// What `try_lock` does, and whether the hold is on.
     #[inline(always)]
     fn try_enter(&self, pass: &mut MutexPass) -> bool
@@ -221,7 +242,7 @@ impl<A: Allocator, S> Mutex<A, S> {
 
     /// What `unlock` does, by the pass that has the hold. Gives the wake closure back.
     #[inline(always)]
-    fn leave<'t, X: OfWord<MutexWord<'t>>, W: FnMut(&X)>(
+    pub fn leave<'t, X: OfWord<MutexWord<'t>>, W: FnMut(&X)>(
         &'t self,
         pass: &mut MutexPass,
         wake_one: W,
@@ -232,7 +253,7 @@ impl<A: Allocator, S> Mutex<A, S> {
         requires may { W.IsAlwaysCallable wake_one }
         ensures released { HasUnlocked pass.old pass.new }
         ensures played { HasPlayedUnlock pass.old pass.new }
-        ensures woke { WokeOnce W.FnMut (λ word. (X.Shown.object word ≡ id_of self.now.stage) × (X.Shown.index word ≡ 0)) wake_one result }
+        ensures woke { WokeOnce W.FnMut (λ word. IsItsWord self.now (X.Shown.object word) (X.Shown.index word)) wake_one result }
     {
         let begun = begin_held::<UnlockCall, MutexPass>(pass);
         let turn = self.release(begun);

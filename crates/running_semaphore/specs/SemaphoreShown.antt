@@ -5,6 +5,10 @@ use Rattle.running_passes.specs.declared.part.Part.{Part}
 use Rattle.running_passes.specs.declared.pass.Pass.{Pass}
 use Rattle.atomic_table.specs.Seated.{TableId}
 use Rattle.running_model.specs.Stages.{IsPassOf, id_of, key_of}
+use Rattle.running_model.specs.Asked.{AskedAfter}
+use Rattle.model_events.specs.declared.WaitAction.{WaitAction}
+use Rattle.std.specs.Borrow.{Bor}
+use Rattle.std.specs.Fn.{Mut}
 use Rattle.running_semaphore.specs.declared.Semaphore.{Semaphore}
 use Rattle.running_semaphore.specs.SemaphoreSteps.{took}
 
@@ -38,6 +42,11 @@ worth_of p = value_of (counts_of p)
 -- the value at which no permit is taken
 abbrev pub IsEmpty : ℕ → Type 0
 IsEmpty word = word ≡ 0
+
+-- What a `Wait` asked its wait closure, of this word, from wait on, and nothing beside: nothing where it took a permit by itself. Where no other
+-- pass is left, it looked 10001 times before, and once for each question.
+abbrev pub AskedForPermit : {F X : Type 0} → Mut F (Bor X × (Bor ℕ × Unit {0})) WaitAction → X → F → F → Bool → SemPass → SemPass → Type 0
+AskedForPermit g shown wait after took p q = AskedAfter g shown IsEmpty 10001 wait after took (IsWhole (part_of p)) (sights_of p).count (sights_of q).count
 
 -- One permit was taken from the value seen last, which had one. Where no other pass is left, that is what the tally came to.
 pub record Takes (part : Part) (t u : Permits) (last : ℕ) : Type 0 where

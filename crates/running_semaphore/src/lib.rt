@@ -15,7 +15,7 @@ use model_events::WaitAction;
 use model_semaphore::{SemaphorePlace, taken};
 pub use permits::{Permits, PlayedSemaphore, SemaphoreScript};
 use running_model::calls::{TryWaitCall, ValueCall, WaitCall};
-use running_model::turn::{Attempt, Called, Goes, Turn, Way, begin_new, try_again};
+use running_model::turn::{Attempt, Called, Goes, Turn, Way, begin_new, try_again_by};
 use running_model::{OfWord, OwnWords, Sealed, Shown, Shows, Stage};
 use running_passes::{Origin, Pass, WaitResult, Word, success_if};
 use std::alloc::{AllocError, Allocator, Global};
@@ -70,7 +70,7 @@ impl<A: Allocator, S> Semaphore<A, S> {
     ghost use Rattle.running_model.specs.Stages.{id_of};
     ghost use Rattle.running_semaphore.specs.SemaphoreParties.{Wanting, MayWant, OnceWanting, HasLooked, HasOne, HasWanted};
     ghost use Rattle.running_semaphore.specs.SemaphoreSteps.{took, gave};
-    ghost use Rattle.running_semaphore.specs.SemaphoreShown.{IsSemPass, IsItsWord, initial_of, given_of, taken_of, worth_of, IsEmpty, SawLast, TookOne, SawNone, TookOrSawNone, HasTaken, HasTakenAtOnce, HasCounted, answer_of, HasPlayed, HasPlayedPost, HasPlayedBoth};
+    ghost use Rattle.running_semaphore.specs.SemaphoreShown.{IsSemPass, IsItsWord, initial_of, given_of, taken_of, worth_of, IsEmpty, AskedForPermit, SawLast, TookOne, SawNone, TookOrSawNone, HasTaken, HasTakenAtOnce, HasCounted, answer_of, HasPlayed, HasPlayedPost, HasPlayedBoth};
 
     /// A semaphore of this value, and the pass that is whole. `Err` where there was no memory; then nothing was made.
     pub fn new(alloc: A, initial: u64) -> Result<(Semaphore<A, S>, SemPass), AllocError>
@@ -139,7 +139,8 @@ impl<A: Allocator, S> Semaphore<A, S> {
         ensures aborted { IfInterrupted result (MayAnswerAbort W.Fn wait IsEmpty) }
         ensures asked { IsWhole (part_of pass.old) → IfInterrupted result (HasAsked W.Fn wait IsEmpty 10001 pass.old pass.new) }
     {
-        success_if(self.enter(rt, pass, &self.word(), &wait))
+        let (took, _) = self.enter(rt, pass, &self.word(), wait);
+        success_if(took)
     }
 
     /// Takes a permit where there is one, and tries again where another party's write came between its look and its exchange.
@@ -205,39 +206,39 @@ impl<A: Allocator, S> Semaphore<A, S> {
         stage.close(pass, 0)
     }
 
-    /// What `wait` does, by the word as its closure sees it, and whether a permit was taken. It serves a call that waits for a permit as
-    /// a part of its own.
+    /// What `wait` does, by the word as its closure sees it, and whether a permit was taken. Gives the closure back. It serves a call that
+    /// waits for a permit as a part of its own.
     #[inline(always)]
-    pub fn enter<X: Shown, R: Wait, W: Fn(&X, &u64) -> WaitAction>(
+    pub fn enter<X: Shown, R: Wait, W: FnMut(&X, &u64) -> WaitAction>(
         &self,
         rt: &R,
         pass: &mut SemPass,
         word: &Sealed<X>,
-        wait: &W,
-    ) -> bool
+        wait: W,
+    ) -> (bool, W)
         requires own { IsSemPass self.now pass.old }
         requires its { IsItsWord self.now (X.object word.now.shown) (X.index word.now.shown) }
-        requires may { W.IsAlwaysCallable wait.now }
-        ensures entered { MatchBool result (HasTaken pass.old pass.new) (WasRefused IsEmpty 10002 pass.old pass.new) }
-        ensures played { MatchBool result (HasPlayed (initial_of self.now) calls.Wait answers.Success pass.old pass.new) (HasPlayed (initial_of self.now) calls.Wait answers.Interrupted pass.old pass.new) }
-        ensures exact { IsWhole (part_of pass.old) → MatchBool result (0 < worth_of pass.old) (worth_of pass.old ≡ 0) }
-        ensures aborted { result ≡ false → MayAnswerAbort W.Fn wait.now IsEmpty }
-        ensures asked { IsWhole (part_of pass.old) → result ≡ false → HasAsked W.Fn wait.now IsEmpty 10001 pass.old pass.new }
+        requires may { W.IsAlwaysCallable wait }
+        ensures may_again { W.IsAlwaysCallable result.1 }
+        ensures entered { MatchBool result.0 (HasTaken pass.old pass.new) (WasRefused IsEmpty 10002 pass.old pass.new) }
+        ensures played { MatchBool result.0 (HasPlayed (initial_of self.now) calls.Wait answers.Success pass.old pass.new) (HasPlayed (initial_of self.now) calls.Wait answers.Interrupted pass.old pass.new) }
+        ensures exact { IsWhole (part_of pass.old) → MatchBool result.0 (0 < worth_of pass.old) (worth_of pass.old ≡ 0) }
+        ensures asked { AskedForPermit W.FnMut word.now.shown wait result.1 result.0 pass.old pass.new }
     {
         match self.first_take::<WaitCall>(pass) {
             Ok(took) => {
                 let _pass = took.end(&self.stage);
-                true
+                (true, wait)
             }
             Err((seen, next)) => {
                 let (took, after) = self.take_from(next, rt, seen);
                 if took {
                     let _pass = after.end(&self.stage);
-                    return true;
+                    return (true, wait);
                 }
-                let (granted, last) = try_again(rt, after, self, word, 0, wait);
+                let (granted, last, asked) = try_again_by(rt, after, self, word, 0, wait);
                 let _pass = last.end(&self.stage);
-                granted
+                (granted, asked)
             }
         }
     }

@@ -1,42 +1,16 @@
-use Rattle.running_guarded.proofs.Names.{◌∙◌, suc, arith, waits_again, waits_no_more}
-use Rattle.running_guarded.proofs.Looks.{locks_again}
+use Rattle.running_guarded.proofs.Names.{◌≡◌, refl, subst, ◌∙◌}
+use Rattle.running_model.proofs.Questions.{says_of}
+use Rattle.running_guarded.proofs.Acting.{looks_often, looks_again, looks_wake, looks_abort}
 use Rattle.running_guarded.proofs.guarded.Guarded.when.Goals as goal
 
-pub returns-in-Acted-clause-looked : goal.returns-in-Acted-clause-looked
-returns-in-Acted-clause-looked g c = let before = c.loop.invariant.looked in let look = c.in-Acted.ensures in (
-  before.0,
-  locks_again before.0 _ c.loop.pass _ before.1 look.granted look.played,
-  waits_no_more c.args.changed.now before.0 c.args.changed_pass.now c.loop.changed_pass c.look.new.changed_pass before.2 look.slept,
-  (c.loop.act, c.look.new.act, before.3, look.called),
-)
+pub returns-clause-looked : goal.returns-clause-looked
+returns-clause-looked g c = looks_often _ _ _ _ _ _ _ (c.args.pass.now, c.args.changed_pass.now, c.args.wake_one, c.args.wait, c.args.act) (c.when_by-given.new.pass, c.when_by-given.new.changed_pass, c.when_by-given.result.1, c.when_by-given.result.2, c.when_by-given.new.act) c.when_by-given.ensures.looked
 
-pub loop-preserved : goal.loop-preserved
-loop-preserved g c = let before = c.loop.invariant in let look = c.in-Again.ensures in record {
-  stayed = record {
-    same = (look.stayed.same.0 ∙ before.stayed.same.0, look.stayed.same.1 ∙ before.stayed.same.1, look.stayed.same.2);
-    part = look.stayed.part ∙ before.stayed.part;
-    grants = omega (arith, before.stayed.grants, look.stayed.grants);
-    saw = omega (arith, before.stayed.saw, look.stayed.saw);
-  };
-  waited = record {
-    waits = (look.waited.waits.0 ∙ before.waited.waits.0, look.waited.waits.1 ∙ before.waited.waits.1);
-    permits = (look.waited.permits.0 ∙ before.waited.permits.0, look.waited.permits.1 ∙ before.waited.permits.1);
-    part_of_waits = look.waited.part_of_waits ∙ before.waited.part_of_waits;
-    part_of_permits = look.waited.part_of_permits ∙ before.waited.part_of_permits;
-  };
-  looked = (
-    suc before.looked.0,
-    locks_again before.looked.0 _ c.loop.pass _ before.looked.1 look.granted look.played,
-    waits_again c.args.changed.now before.looked.0 c.args.changed_pass.now c.loop.changed_pass c.look.new.changed_pass before.looked.2 look.slept,
-    (c.loop.act, before.looked.3, look.called),
-  );
-  callable = look.callable;
-}
+pub returns-clause-looked_again : goal.returns-clause-looked_again
+returns-clause-looked_again g c = looks_again _ _ _ _ _ _ c.when_by-given.result.0 (c.args.pass.now, c.args.changed_pass.now, c.args.wake_one, c.args.wait, c.args.act) (c.when_by-given.new.pass, c.when_by-given.new.changed_pass, c.when_by-given.result.1, c.when_by-given.result.2, c.when_by-given.new.act) c.when_by-given.ensures.looked
 
-pub returns-in-GaveUp-clause-looked : goal.returns-in-GaveUp-clause-looked
-returns-in-GaveUp-clause-looked g c = let before = c.loop.invariant.looked in let look = c.in-GaveUp.ensures in let last = c.look_last.ensures in (
-  suc before.0,
-  locks_again (suc before.0) _ c.look.new.pass _ (locks_again before.0 _ c.loop.pass _ before.1 look.granted look.played) last.granted last.played,
-  waits_again c.args.changed.now before.0 c.args.changed_pass.now c.loop.changed_pass c.look.new.changed_pass before.2 look.slept,
-  (c.look.new.act, c.look_last.new.act, (c.loop.act, before.3, look.called), last.called),
-)
+pub returns-clause-aborted : goal.returns-clause-aborted
+returns-clause-aborted g c = looks_abort _ _ _ _ _ _ g.W.Fn c.args.wait (λ f a r after good called. (g.met.W.Fn.1.step_stays _ _ _ _ called ∙ good, record { met = subst (λ x. g.W.Fn.post x a r) good ((g.met.W.FnMut.1.post_iff _ _ _).1 (after, called)) })) c.when_by-given.result.0 (c.args.pass.now, c.args.changed_pass.now, c.args.wake_one, c.args.wait, c.args.act) (c.when_by-given.new.pass, c.when_by-given.new.changed_pass, c.when_by-given.result.1, c.when_by-given.result.2, c.when_by-given.new.act) c.when_by-given.ensures.looked refl
+
+pub returns-clause-woke : goal.returns-clause-woke
+returns-clause-woke g c = record { word = _; says = says_of _ g.K.Fn _ _ _ _ (λ a e. (g.met.K.FnMut.1.post_iff _ _ _).1 (_, e)) (looks_wake _ _ _ _ _ _ _ (c.args.pass.now, c.args.changed_pass.now, c.args.wake_one, c.args.wait, c.args.act) (c.when_by-given.new.pass, c.when_by-given.new.changed_pass, c.when_by-given.result.1, c.when_by-given.result.2, c.when_by-given.new.act) c.when_by-given.ensures.looked).1.called }
