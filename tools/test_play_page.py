@@ -120,14 +120,19 @@ class Cases:
         in_sight = f"(it => ({ends})(it.getBoundingClientRect()).every(([x, y]) => document.elementFromPoint(x, y) === it))"
         self.seen("its last step", f"{in_sight}([...picture.querySelectorAll('svg > g')].at(-1).querySelector('text'))")
         self.judge("its last line, and the page's head", run("[text.scrollHeight - text.scrollTop - text.clientHeight < 2, scrollY]"), [True, 0])
+        self.judge("what each word holds then", run("[held.textContent, held.getBoundingClientRect().bottom <= innerHeight]"), ["After step 100: lock free, counter 0.", True])
+        self.judge("whether a button leads to the trace's last column", run("wide.hidden === trace.scrollWidth <= trace.clientWidth && (wide.click(), trace.scrollLeft + trace.clientWidth + 1 >= trace.scrollWidth)"), True)
         small = "[...document.querySelectorAll('button, select, label, nav a, textarea')].filter(it => it.offsetHeight && Math.min(it.offsetHeight, it.offsetWidth) < 44)"
         self.judge("what is small", not touch or run(f"{small}.map(it => it.textContent.slice(0, 20))"), not touch or [])
         self.judge("small letters where one writes", run("parseFloat(getComputedStyle(text).fontSize) < 16"), not touch)
         run("share.focus()")
         self.press("Enter")
         self.seen("the address is copied", "share.textContent === 'copied'")
-        self.go(width, "five parties", "#play/condvar+5/1+lock/1+run")
-        self.seen("the buttons of the last", "[...parties.querySelectorAll('[data-party=\"5\"] button')].at(-1)?.getBoundingClientRect().bottom <= innerHeight")
+        for object, many, call, holds in (("condvar", 5, "lock", "holds"), ("rwreader", 5, "write_lock", "writes"), ("rwreader", 3, "write_lock", "writes"))[: 3 if width < 800 else 1]:
+            self.go(width, f"{many} parties at a {object}", f"#play/{object}+{many}/1+{call}/1+run/2+{call}/2+run")
+            self.seen("the buttons of the last", f"[...parties.querySelectorAll('[data-party=\"{many}\"] button')].at(-1)?.getBoundingClientRect().bottom <= {700 if touch and many > 3 else 800}")
+            self.judge("what is small", not touch or run(f"{small}.map(it => it.textContent.slice(0, 20))"), not touch or [])
+            self.judge("who has it, and the last line", run("[held.textContent.split('; ')[1], text.scrollHeight - text.scrollTop - text.clientHeight < 2]"), [f"party 1 {holds}.", True])
         self.browser.ask("Emulation.setTouchEmulationEnabled", enabled=False)
 
     def click_through(self, width):
@@ -171,8 +176,14 @@ class Cases:
         self.seen("its output", "out.textContent === '1 success\\nstate 1 failed 0\\n'")
         self.judge("its calls", run("[...parties.querySelectorAll('[data-party=\"1\"] button')].map(it => it.textContent)"), ["unlock"])
         self.judge("it has no picture", run("pictured.hidden"), True)
+        self.judge("what its word holds", run("held.textContent"), "After step 2: state 1; party 1 writes.")
         run("back.click(); back.click()")
         self.judge("its table stays", run("back.disabled"), True)
+        for name, found in (("own-three-states, played", "out.textContent === '1 success\\n2 waits 2\\n1 wakes one\\n1 done\\nstate 0 failed 1\\n'"), ("own-three-states", "answers.textContent === 'never: proved, for any number of parties'")):
+            run(f"example.value = [...example.querySelectorAll('[label=\"locks of your own\"] option')].find(it => it.textContent === '{name}').value; example.onchange()")
+            self.seen(f"the example {name}", found)
+        run("text.value = ''; text.oninput()")
+        self.judge("how else a text begins", run("['parties', 'let', 'object'].filter(it => !text.placeholder.includes(it))"), [])
 
     def ask_through(self, width):
         run = self.browser.run
