@@ -54,7 +54,7 @@ TESTED = {
 
 # The libraries of the programs, whose calls take memory of the system alone. `./test streams` sweeps the limit of each program.
 SWEPT = {
-    *("text_lines", "text_advice", "text_own", "own_play", "text_trace", "explore_search", "explore_complete", "explore_stuck", "explore_text", "explore_client"),
+    *("text_lines", "text_advice", "text_own", "own_play", "own_explore", "text_trace", "explore_search", "explore_complete", "explore_stuck", "explore_text", "explore_client"),
     *("draw_markup", "draw_story", "draw_layout", "draw_parts", "draw_text"),
 }
 

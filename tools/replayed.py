@@ -1,5 +1,6 @@
 """Plays each text in an answer of sync-explore by sync-play, and holds what that prints against the line, or against the condition that
-the question ends with; and whether its wait closures that sleep could have gone on where the text says that they do.
+the question ends with; and whether its wait closures that sleep could have gone on where the text says that they do. Of a lock of one's own it looks
+whether two hold it at the end of its text, and, where there is none, whether they never do.
 
     python3 tools/replayed.py QUESTION ANSWER
 
@@ -9,6 +10,8 @@ Prints nothing where all agree, and else what does not, with status 1. Who holds
 import re
 import subprocess
 import sys
+
+import own_locks
 
 NO_ANSWERS = ("waits", "wakes", "chooses")
 VERBS = ("go", "run", "wait", "abort", "some", "none")
@@ -351,8 +354,10 @@ def wrong_terms(question, answer, terms):
 def main():
     question, answer = (open(file, encoding="utf-8").read() for file in sys.argv[1:])
     if question.startswith("object "):
-        # Of a lock of one's own nothing is played.
-        return 0
+        wrong = own_locks.wrong_answer("\n".join(question.splitlines()[1:-1]), answer.splitlines())[1] if answer else None
+        if wrong:
+            print(wrong)
+        return 1 if wrong else 0
     question = spread(question)
     terms = condition_of(question) if answer else None
     wrong = wrong_outcomes(question, answer) if terms is None else wrong_terms(question, answer, terms)

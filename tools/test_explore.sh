@@ -1,7 +1,7 @@
 # Each question of examples/explore is answered: NAME.txt has beside it the answer (NAME.out), NAME.err for standard error where it is not
 # empty, NAME.status where the status is not 0, and NAME.told where its moves are told too. Each text in an answer is played by sync-play, and prints what
 # its line says. Those of the folder classic are answered so, too. And questions that are made at random are answered as tools/brute.py answers them, which knows nothing but the pages; of locks of one's
-# own that are made so none that is said to be proved goes wrong, and their texts print what tools/own_locks.py says.
+# own that are made so none that is said to be proved goes wrong, two hold one at the end of its text, and else in none of the states explored; and their texts print what tools/own_locks.py says.
 test_explore() {
     local text
     source tools/test_examples.sh
@@ -36,7 +36,7 @@ test_explore() {
     attempt python3 tools/brute.py --several 300 1
     judge_line "tools/brute.py, of several objects" 0 "300 questions, 0 wrong" ""
     attempt python3 tools/own_locks.py 200 1
-    judge_line "tools/own_locks.py" 0 "200 locks, 102 proved, 22 faulty, 0 wrong" ""
+    judge_line "tools/own_locks.py" 0 "200 locks, 102 proved, 18 with two holders, 58 explored, 22 faulty, 0 wrong" ""
     attempt python3 tools/own_locks.py --played 60 1
     judge_line "tools/own_locks.py, of texts" 0 "60 texts, 16 faulty, 0 wrong" ""
 }
