@@ -372,14 +372,7 @@ impl<A: Allocator, S> ConditionVariable<A, S> {
         Y,
         F: FnOnce(&CountedWait<'_>) -> Y,
         W: FnMut(&X, &u64) -> WaitAction,
-    >(
-        &self,
-        rt: &R,
-        cond_pass: &mut CondPass,
-        leave: F,
-        word: &Sealed<X>,
-        wait: W,
-    ) -> (Y, bool, W)
+    >(&self, rt: &R, cond_pass: &mut CondPass, leave: F, word: &Sealed<X>, wait: W) -> (Y, bool, W)
         requires own { IsCondPass self.now cond_pass.old }
         requires its { IsPermitsWord self.now (X.object word.now.shown) (X.index word.now.shown) }
         requires may { F.IsAlwaysCallable leave × W.IsAlwaysCallable wait }

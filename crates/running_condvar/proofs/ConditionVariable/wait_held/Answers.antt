@@ -12,8 +12,7 @@ pub returns-then-not-locked : goal.returns-then-not-locked
 returns-then-not-locked g c =
     let slept = c.unlock_and_sleep-signalled.ensures in
     let came = told_of _ _ c.args.wait _ _ _ _ g.W.Fn (λ f a r after good called. (g.met.W.Fn.1.step_stays _ _ _ _ called ∙ good, record { met = subst (λ x. g.W.Fn.post x a r) good ((g.met.W.FnMut.1.post_iff _ _ _).1 (after, called)) })) c.unlock_and_sleep-signalled.result.0 slept.slept in
-    let asked = (questions _ _ _ _ _ c.unlock_and_sleep-signalled.new.mtx_pass c.enter-locked.new.pass c.enter-locked.ensures.asked c.if-not-locked.true).2 in
-    (
+    let asked = (questions _ _ _ _ _ c.unlock_and_sleep-signalled.new.mtx_pass c.enter-locked.new.pass c.enter-locked.ensures.asked c.if-not-locked.true).2 in (
       (
         refl,
         λ _. tt,
@@ -39,8 +38,7 @@ returns-then-not-locked g c =
 pub returns-then-signalled : goal.returns-then-signalled
 returns-then-signalled g c =
     let slept = c.unlock_and_sleep-signalled.ensures in
-    let came = told_of _ _ c.args.wait _ _ _ _ g.W.Fn (λ f a r after good called. (g.met.W.Fn.1.step_stays _ _ _ _ called ∙ good, record { met = subst (λ x. g.W.Fn.post x a r) good ((g.met.W.FnMut.1.post_iff _ _ _).1 (after, called)) })) c.unlock_and_sleep-signalled.result.0 slept.slept in
-    (
+    let came = told_of _ _ c.args.wait _ _ _ _ g.W.Fn (λ f a r after good called. (g.met.W.Fn.1.step_stays _ _ _ _ called ∙ good, record { met = subst (λ x. g.W.Fn.post x a r) good ((g.met.W.FnMut.1.post_iff _ _ _).1 (after, called)) })) c.unlock_and_sleep-signalled.result.0 slept.slept in (
       (refl, λ _. refl, tt),
       record {
         left = tt;
@@ -62,8 +60,7 @@ returns-then-signalled g c =
 pub returns-else-signalled : goal.returns-else-signalled
 returns-else-signalled g c =
     let slept = c.unlock_and_sleep-signalled.ensures in
-    let came = told_of _ _ c.args.wait _ _ _ _ g.W.Fn (λ f a r after good called. (g.met.W.Fn.1.step_stays _ _ _ _ called ∙ good, record { met = subst (λ x. g.W.Fn.post x a r) good ((g.met.W.FnMut.1.post_iff _ _ _).1 (after, called)) })) c.unlock_and_sleep-signalled.result.0 slept.slept in
-    (
+    let came = told_of _ _ c.args.wait _ _ _ _ g.W.Fn (λ f a r after good called. (g.met.W.Fn.1.step_stays _ _ _ _ called ∙ good, record { met = subst (λ x. g.W.Fn.post x a r) good ((g.met.W.FnMut.1.post_iff _ _ _).1 (after, called)) })) c.unlock_and_sleep-signalled.result.0 slept.slept in (
       (refl, λ _. refl, tt),
       record {
         left = tt;
