@@ -4,6 +4,7 @@
 //! says in one sentence what would be right there.
 #![tactic(auto)]
 
+mod calls;
 mod condition;
 mod failed;
 mod items;

@@ -80,31 +80,80 @@ pub fn nearest<'a>(list: &'a [u8], word: &[u8]) -> &'a [u8] {
     named_in(list, word, true)
 }
 
-/// The object's call, or what moves one on, that has this name elsewhere; with a number where it wants one. Empty where there is none.
-fn call_elsewhere(object: Object<()>, word: &[u8]) -> &'static [u8] {
-    match object {
-        Object::Mutex | Object::Spin | Object::Condvar if has(b"acquire take", word) => b"lock",
-        Object::Mutex | Object::Spin | Object::Condvar if is(word, b"release") => b"unlock",
-        Object::ReaderLock | Object::WriterLock if word.ends_with(b"unlock") => b"unlock",
-        Object::Condvar if is(word, b"signal") => b"notify_one",
-        Object::Condvar if is(word, b"broadcast") => b"notify_all",
-        Object::Semaphore(_) if has(b"acquire down P", word) => b"start_wait",
-        Object::Semaphore(_) if has(b"release signal up V", word) => b"post 1",
-        Object::Lazy(_) if word.starts_with(b"get") => b"force",
-        Object::Atomic(_) if is(word, b"cas") => b"compare_exchange",
-        _ if has(b"step next", word) => b"go",
-        _ if has(b"continue resume", word) => b"run",
-        _ => b"",
+/// What a word has behind its last `_`: a call's own name in C.
+fn own_name(word: &[u8]) -> &[u8] {
+    match word.iter().rposition(|byte| *byte == b'_') {
+        Some(place) if place < word.len() => &word[place + 1..],
+        _ => word,
     }
+}
+
+/// Names of calls elsewhere, and the calls.
+type Calls = &'static [(&'static [u8], &'static [u8])];
+
+/// Those of an object; with a number where it wants one.
+fn calls_elsewhere(object: Object<()>) -> Calls {
+    match object {
+        Object::Mutex | Object::Spin => &[
+            (b"acquire take enter lock", b"lock"),
+            (b"release drop leave unlock", b"unlock"),
+            (b"trylock", b"try_lock"),
+        ],
+        Object::Condvar => &[
+            (b"acquire take enter lock", b"lock"),
+            (b"release drop leave unlock", b"unlock"),
+            (b"trylock", b"try_lock"),
+            (b"timedwait timeout until for", b"start_wait"),
+            (b"signal notify", b"notify_one"),
+            (b"broadcast", b"notify_all"),
+        ],
+        Object::ReaderLock | Object::WriterLock => &[
+            (b"rdlock shared", b"read_lock"),
+            (b"wrlock lock exclusive upgrade", b"write_lock"),
+            (b"tryrdlock", b"try_read_lock"),
+            (b"trywrlock try_lock", b"try_write_lock"),
+            (b"runlock wunlock release drop unlock", b"unlock"),
+        ],
+        Object::Semaphore(_) => &[
+            (b"acquire down P take", b"start_wait"),
+            (b"release signal up V give", b"post 1"),
+            (b"trywait", b"try_wait"),
+        ],
+        Object::Barrier(_) => &[(b"arrive await", b"start_wait")],
+        Object::Once => &[(b"init once", b"call_once")],
+        Object::Lazy(_) => &[(b"get deref", b"force")],
+        Object::Atomic(_) => &[
+            (b"cas", b"compare_exchange"),
+            (b"read get", b"load"),
+            (b"write", b"store"),
+            (b"exchange", b"swap"),
+        ],
+    }
+}
+
+/// What moves a call of a text on, and has this name elsewhere.
+const VERBS: Calls = &[(b"step next", b"go"), (b"continue resume", b"run")];
+
+/// The call of these that has this name elsewhere. Empty where there is none.
+fn call_elsewhere(calls: Calls, word: &[u8]) -> &'static [u8] {
+    for (names, call) in calls {
+        if has(names, word) || has(names, own_name(word)) {
+            return call;
+        }
+    }
+    b""
 }
 
 /// The object's call that this word nearly names. Empty where there is none.
 pub fn nearest_call(object: Object<()>, word: &[u8]) -> &'static [u8] {
     for call in calls_of(&object) {
         let name = name_of(call).as_bytes();
-        if is_near(word, name) || is(word, b"wait") && is(name, b"start_wait") {
+        if is_near(word, name) || is(own_name(word), b"wait") && is(name, b"start_wait") {
             return name;
         }
     }
-    call_elsewhere(object, word)
+    match call_elsewhere(calls_elsewhere(object), word) {
+        [] => call_elsewhere(VERBS, word),
+        call => call,
+    }
 }

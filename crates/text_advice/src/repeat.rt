@@ -88,7 +88,10 @@ pub fn repeat_apart(out: &mut Vec<u8>, words: &[u8]) -> Result<(), AllocError> {
         if lacks_blank(last, byte) {
             out.push(b' ')?;
         }
-        add_byte(out, byte)?;
+        // `=` is written once.
+        if byte != b'=' || last != b'=' {
+            add_byte(out, byte)?;
+        }
         last = byte;
     }
     out.extend_from_slice(dots(words))

@@ -213,7 +213,7 @@ pub const ONE_OBJECT: &[u8] =
     b"a question about several objects begins with `parties 2`, and names each: let one mutex";
 
 /// The object that has this name elsewhere. Empty where there is none.
-fn object_elsewhere(name: &[u8]) -> &'static [u8] {
+pub fn object_elsewhere(name: &[u8]) -> &'static [u8] {
     if has(b"rwlock RwLock RWLock rw_lock shared_mutex", name) {
         b"rwwriter"
     } else if is(name, b"cv") {
@@ -249,11 +249,9 @@ pub fn no_object(out: &mut Vec<u8>, line: &[u8], what: &[u8], objects: &[u8]) ->
         mean(out, at, near)
     } else {
         say(out, what, b" begins with its object: ", objects)?;
-        out.extend_from_slice(if asks {
-            b"; one about a lock of your own with `object futex`"
-        } else {
-            b""
-        })
+        out.extend_from_slice(
+            b"; of several objects with `parties 2`, of a lock of your own with `object futex`",
+        )
     }
 }
 

@@ -1,16 +1,16 @@
 //! What would be right in a line of a text of several objects.
 
 use crate::from_line;
-use crate::items::tells_of_closures;
 use crate::near::{nearest, nearest_call};
-use crate::objects::{first_value, noun, numbers_after, questions_objects, verbs_of};
+use crate::objects::{first_value, first_words, noun, numbers_after, questions_objects, verbs_of};
 use crate::question::of_line;
-use crate::sentence::{OF_QUESTION, is_of_question, list_calls, of_any_party, of_number};
-use crate::variables::{add_names, named};
+use crate::sentence::{
+    OF_QUESTION, is_of_question, list_calls, object_elsewhere, of_any_party, of_number,
+};
+use crate::variables::{add_names, named, object_of};
 use crate::words::{
     Added, Spot, before, before_word, cut, cut_word, first_spot, first_word, front_of, has,
-    has_comment, has_mark, is_no_number, mean, names_parties, none_here, of_comment, say,
-    second_spot, show,
+    has_comment, has_mark, is_no_number, of_comment, run_of, say, second_spot, show,
 };
 use model_events::event::Object;
 use text_lines::command::is_known;
@@ -19,54 +19,104 @@ use text_lines::lexer::{is, next_line};
 use text_lines::several::{is_several, may_name};
 use text_lines::value_type::object_named;
 
-/// What a term asks of an object that it names, beside its answers.
-const ASKED_OF: &[u8] =
-    b"success interrupted done ok full err true false waits write read word counter waiters value";
-
 /// Whether a text is one of several objects.
 pub fn begins_several(text: &[u8]) -> bool {
     is_several(next_line(text).unwrap_or((b"", b"")).0)
 }
 
-/// The object that a text gives this name.
-fn object_of(text: &[u8], name: &[u8]) -> Option<Object<()>> {
-    object_named(first_word(named(text, name, false).1))
-}
-
-/// Of a line that names no object which there may be, at the word that is to be one.
-fn of_no_object(out: &mut Vec<u8>, name: &[u8], at: Spot<'_>) -> Added {
-    let words: &[u8] = b"`let` has a name, and then its object";
-    let near = nearest(questions_objects(), at.word);
-    if is(at.word, b"=") {
-        none_here(out, at)
-    } else if has(questions_objects(), name) {
-        show(out, words, &[b"let ", at.word, b" ", name, at.behind])
-    } else if near.is_empty() {
-        show(out, words, &[questions_objects()])
-    } else {
-        mean(out, at, near)
+/// The object that a word is, or nearly is, or is elsewhere. Empty where there is none.
+fn object_like(word: &[u8]) -> &'static [u8] {
+    let word = front_of(word, b"(<:;,[{");
+    match object_elsewhere(word) {
+        [] if matches!(object_named(word), Some(Object::Atomic(_))) => b"atomic_u64",
+        [] => nearest(questions_objects(), word),
+        other => other,
     }
 }
 
-/// Of a line that begins with `let`.
-fn of_let(out: &mut Vec<u8>, line: &[u8]) -> Added {
-    let name = second_spot(first_spot(Object::Mutex, b"", line));
-    let kind = second_spot(name);
-    let Some(object) = object_named(kind.word) else {
-        return of_no_object(out, name.word, kind);
-    };
-    if !has(questions_objects(), kind.word) {
-        return of_no_object(out, name.word, kind);
+/// The first of these words that is to be an object, and what is left from it on. Empty where there is none.
+fn kind_in(words: &[u8]) -> (&'static [u8], &[u8]) {
+    let mut left = words;
+    for _ in 0..words.len() {
+        let (word, rest) = cut_word(left);
+        let kind = object_like(word);
+        if word.is_empty() || !kind.is_empty() {
+            return (kind, left);
+        }
+        left = rest;
     }
-    if !may_name(&[], name.word) {
-        return out.extend_from_slice(
+    (b"", b"")
+}
+
+/// What is said of a line that gives this name to an object, called so by the first of the words that are left, behind these lines.
+fn said_of_let(out: &mut Vec<u8>, text: &[u8], name: &[u8], kind: &[u8], left: &[u8]) -> Added {
+    let word = first_word(left);
+    let clean = front_of(name, b",:[=");
+    if name.is_empty() || kind.is_empty() {
+        out.extend_from_slice(b"`let` has a name, and then its object, one of ")?;
+        out.extend_from_slice(questions_objects())
+    } else if has_mark(left, b",") || has_mark(name, b",") {
+        out.extend_from_slice(b"a line names one object")
+    } else if has_mark(name, b"[") || has_mark(word, b"[") {
+        out.extend_from_slice(b"there are no arrays: each object has a name and a line of its own")
+    } else if !is(word, kind) {
+        say(out, b"there is no `", word, b"`, but `")?;
+        say(out, b"", kind, b"`")
+    } else if !may_name(&[], clean) {
+        out.extend_from_slice(
             b"a name begins with a small letter, has no `.`, and is none of and, word, counter, waiters, value, race",
-        );
+        )
+    } else if !named(text, clean, false).0.is_empty() {
+        say(out, b"there is a `", clean, b"` already")
+    } else if let Some(object) = object_named(kind) {
+        out.extend_from_slice(b"`let` has a name, and then its object; ")?;
+        out.extend_from_slice(noun(object))?;
+        out.extend_from_slice(b" has ")?;
+        out.extend_from_slice(first_value(object, kind))
+    } else {
+        Ok(())
     }
-    out.extend_from_slice(b"`let` stands before all other lines, each name is new, and ")?;
-    out.extend_from_slice(noun(object))?;
-    out.extend_from_slice(b" has ")?;
-    out.extend_from_slice(first_value(object, kind.word))
+}
+
+/// Of a line that begins with `let`, behind these.
+fn of_let(out: &mut Vec<u8>, text: &[u8], line: &[u8]) -> Added {
+    let (first, behind) = cut_word(cut_word(line).1);
+    let is_turned = has(questions_objects(), first);
+    let (name, rest) = if is_turned || is(first, b"mut") {
+        cut_word(behind)
+    } else {
+        (first, behind)
+    };
+    let (kind, left) = kind_in(if is_turned { cut_word(line).1 } else { rest });
+    said_of_let(out, text, name, kind, left)?;
+    let clean = front_of(name, b",:[=");
+    let kind: &[u8] = if kind.is_empty() { b"mutex" } else { kind };
+    let front: &[u8] = if clean.is_empty() {
+        b"m"
+    } else if !may_name(&[], clean) {
+        b"my_"
+    } else if named(text, clean, false).0.is_empty() {
+        b""
+    } else {
+        b"other_"
+    };
+    let array: &[u8] = if has_mark(name, b"[") || has_mark(first_word(left), b"[") {
+        b"_0"
+    } else {
+        b""
+    };
+    let (_, value) = run_of(left, b" \t(<:;,[{", false);
+    let (number, _) = run_of(run_of(value, b"0123456789", false).1, b"0123456789", true);
+    let has_value = object_named(kind).is_some_and(|object| first_words(object).len() > 2);
+    let value: &[u8] = match (has_value, number.is_empty() || !array.is_empty()) {
+        (false, _) => b"",
+        (true, true) => b"2",
+        (true, false) => number,
+    };
+    let gap: &[u8] = if has_value { b" " } else { b"" };
+    show(out, b"", &[b"let ", front, front_of(clean, b"."), array])?;
+    say(out, b" ", kind, gap)?;
+    say(out, b"", value, b"")
 }
 
 /// Of a word that is to be `<name>.<call>`.
@@ -131,62 +181,35 @@ fn of_party(out: &mut Vec<u8>, text: &[u8], line: &[u8], fault: LineFault) -> Ad
     }
 }
 
-/// What a line of a question names with a dot behind it, from this object on: the first name that is none, or whose object has no such call or
-/// word; else the first name at all, and its object.
-fn named_at<'a>(question: &[u8], line: &'a [u8]) -> (Spot<'a>, bool) {
-    let mut at = first_spot(Object::Mutex, b"", line);
-    let mut found = at;
+/// The first object that a line names before a dot, or else the first that there is.
+fn object_in(question: &[u8], line: &[u8]) -> Object<()> {
+    let mut found = Object::Mutex;
+    let mut at = first_spot(found, b"", line);
     for _ in 0..line.len() {
         at = second_spot(at);
-        let (name, call) = cut(front_of(at.word, b",)"));
-        if at.word.is_empty() {
+        if let Some(object) = object_of(question, cut(at.word).0) {
+            found = object;
             break;
         }
-        if call.is_empty() || !has_mark(at.word, b".") {
-            continue;
-        }
-        let Some(object) = object_of(question, name) else {
-            return (at, false);
-        };
-        found.object = object;
-        if !is_known(object, call) && !has(ASKED_OF, call) {
-            return (at, false);
-        }
     }
-    (found, true)
+    found
 }
 
 /// Adds what would be right in the place of a line with this fault, of a question about several objects.
 pub fn advise_asked(out: &mut Vec<u8>, question: &[u8], line: &[u8], found: FaultyLine) -> Added {
-    let kind = second_spot(second_spot(first_spot(Object::Mutex, b"", line)));
-    if found.line == 1 || is(first_word(line), b"let") && is_no_number(kind.word) {
+    let (first, rest) = cut_word(line);
+    let (_, value) = cut_word(rest);
+    let names_object = is(first, b"let")
+        && (!kind_in(rest).0.is_empty() || first_word(value).is_empty());
+    if found.line == 1 || names_object && !has_comment(line) {
         return advise(out, question, line, found);
     }
-    let (at, are_known) = named_at(question, line);
-    let asks = has(b"find never", first_word(line));
-    let first = first_spot(
-        at.object,
-        before(question, from_line(question, found.line).len()),
-        line,
-    );
-    if !are_known && !asks {
-        of_call(out, question, at)
-    } else if asks && found.fault == LineFault::BadLine {
-        out.extend_from_slice(
-            b"a term about an object names it, as 1 holds one.write, one.word 1, 1 one.success, 1 items.waits; the names are: ",
-        )?;
-        add_names(out, question, b"")
-    } else if found.fault == LineFault::BadLine
-        && names_parties(first.word)
-        && !tells_of_closures(first.behind)
-    {
-        out.extend_from_slice(
-            b"a comma parts items; each is a call, which its object's name begins, as one.lock, or set, add, sub, if, while, last or ( .. ); the names are: ",
-        )?;
-        add_names(out, question, b"")
-    } else {
-        of_line(out, first, found)
-    }
+    let before = before(question, from_line(question, found.line).len());
+    of_line(
+        out,
+        first_spot(object_in(before, line), before, line),
+        found,
+    )
 }
 
 /// Adds what would be right in the place of a line with this fault, of a text of several objects.
@@ -196,7 +219,7 @@ pub fn advise(out: &mut Vec<u8>, text: &[u8], line: &[u8], found: FaultyLine) ->
     } else if found.line == 1 {
         out.extend_from_slice(b"the first line has 1 to 64 parties: parties 2")
     } else if is(first_word(line), b"let") {
-        of_let(out, line)
+        of_let(out, before(text, from_line(text, found.line).len()), line)
     } else {
         of_party(out, text, line, found.fault)
     }

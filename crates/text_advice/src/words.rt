@@ -57,6 +57,10 @@ pub fn say(out: &mut Vec<u8>, front: &[u8], word: &[u8], end: &[u8]) -> Added {
 pub fn show(out: &mut Vec<u8>, words: &[u8], parts: &[&[u8]]) -> Added {
     out.extend_from_slice(words)?;
     out.extend_from_slice(b": ")?;
+    repeat_all(out, parts)
+}
+
+pub fn repeat_all(out: &mut Vec<u8>, parts: &[&[u8]]) -> Added {
     for part in parts {
         repeat(out, part)?;
     }
@@ -132,6 +136,19 @@ pub fn mean(out: &mut Vec<u8>, at: Spot<'_>, near: &[u8]) -> Added {
     say(out, b"there is no `", at.word, b"`, but `")?;
     repeat(out, near)?;
     put(out, b"`", at, near)
+}
+
+/// Words, and what is said where one of them stands.
+pub type Row = (&'static [u8], &'static [u8]);
+
+/// What is said of this word. Empty where no row has it.
+pub fn said_of(rows: &[Row], word: &[u8]) -> &'static [u8] {
+    for row in rows {
+        if has(row.0, word) {
+            return row.1;
+        }
+    }
+    b""
 }
 
 /// A word without the comma at its end.
