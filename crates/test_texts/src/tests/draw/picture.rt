@@ -36,7 +36,7 @@ fn shown(alloc: Global, story: &Story<u64>) -> Result<String, AllocError> {
 
 /// The story of a text; empty where it has a fault.
 fn story_of(alloc: Global, text: &str) -> Result<String, AllocError> {
-    match play::<u64>(alloc, text.as_bytes()) {
+    match play::<u64>(alloc, text.as_bytes(), b"") {
         Ok(story) => shown(alloc, &story),
         Err(_) => Ok(String::new(alloc)),
     }
@@ -76,7 +76,7 @@ fn taken(alloc: Global, times: u64) -> Result<String, AllocError> {
 /// How many steps the story of such a text has, and how many are left out.
 fn kept(alloc: Global, times: u64) -> Option<(usize, u64)> {
     let text = taken(alloc, times).ok()?;
-    let story = play::<u64>(alloc, text.as_bytes()).ok()?;
+    let story = play::<u64>(alloc, text.as_bytes(), b"").ok()?;
     Some((story.steps.len(), story.left_out))
 }
 
@@ -93,7 +93,7 @@ fn says(picture: &[u8], words: &str) -> Option<bool> {
 
 /// Whether the picture of a text has these words, if the text has no fault.
 fn has(alloc: Global, text: &str, words: &str) -> Option<bool> {
-    match draw_text(alloc, text.as_bytes()) {
+    match draw_text(alloc, text.as_bytes(), b"") {
         Ok(picture) => says(&picture, words),
         Err(_) => None,
     }
@@ -192,7 +192,7 @@ fn push_place(
 /// The objects of the steps of a text of several, and its last lines; empty where it has a fault.
 fn places_of(alloc: Global, text: &str) -> Result<String, AllocError> {
     let mut out = String::new(alloc);
-    if let Ok(story) = several::play::<u64>(alloc, text.as_bytes()) {
+    if let Ok(story) = several::play::<u64>(alloc, text.as_bytes(), b"") {
         for step in &story.steps {
             push_place(&mut out, &story, step)?;
         }
@@ -245,7 +245,7 @@ fn titles_in(alloc: Global, picture: &str) -> Result<String, AllocError> {
 
 /// The titles of the groups in the picture of a text; empty where it has a fault.
 fn titles_of(alloc: Global, text: &str) -> Result<String, AllocError> {
-    match draw_text(alloc, text.as_bytes()) {
+    match draw_text(alloc, text.as_bytes(), b"") {
         Ok(picture) => titles_in(alloc, str::from_utf8(&picture).unwrap_or("")),
         Err(_) => Ok(String::new(alloc)),
     }
@@ -296,8 +296,60 @@ fn ended(alloc: Global, text: &[u8]) -> (Option<u8>, usize) {
 #[test]
 fn a_fault_is_told_and_nothing_is_written(rt: HostRuntime) {
     for (text, line, fault) in FAULTY {
-        let told = draw_text(rt.alloc(), text).err();
+        let told = draw_text(rt.alloc(), text, b"").err();
         assert_eq!(rt; told, Some(TextFault::Line { line, fault }));
         assert_eq!(rt; ended(rt.alloc(), text), (Some(2), 0));
     }
+}
+
+/// A text, and its moves as they are told behind it.
+const PLAYED: &str = "mutex 1\n1 lock\n1 run\n";
+
+const MOVES: &str = "# 1 lock\n# 1 reads ready 0\n# 1 run\n# 1 sets ready 1\n";
+
+/// The rows of the steps of a story, and of the moves that are told beside it.
+fn rows_of(alloc: Global, story: &Story<u64>) -> Result<String, AllocError> {
+    let mut out = String::new(alloc);
+    for step in &story.steps {
+        let row = step.row;
+        write!(out, "{row} ")?;
+    }
+    for aside in &story.asides {
+        let row = aside.row;
+        let words = aside.words.as_str();
+        write!(out, "/ {row} {words} ")?;
+    }
+    Ok(out)
+}
+
+#[test]
+fn a_move_that_is_told_has_its_row(rt: HostRuntime) -> Result<(), Fail> {
+    let mut rows = String::new(rt.alloc());
+    if let Ok(story) = play::<u64>(rt.alloc(), PLAYED.as_bytes(), MOVES.as_bytes()) {
+        rows = rows_of(rt.alloc(), &story)?;
+    }
+    assert_eq!(rt; rows.as_str(), "0 2 / 1 reads ready 0 / 3 sets ready 1 ");
+    Ok(())
+}
+
+/// What a run draws of a text and what stands behind it; nothing where it has a fault.
+fn drawn(alloc: Global, text: &str, behind: &str) -> Result<Vec<u8>, AllocError> {
+    let both = format!(in alloc; "{text}{behind}")?;
+    let mut reader = both.as_bytes();
+    let mut written: Vec<u8> = Vec::new(alloc);
+    match run(alloc, &mut reader, &mut written) {
+        Ok(()) => Ok(written),
+        Err(_) => Ok(Vec::new(alloc)),
+    }
+}
+
+#[test]
+fn moves_are_told_in_the_last_lines_alone(rt: HostRuntime) -> Result<(), Fail> {
+    let picture = drawn(rt.alloc(), PLAYED, MOVES)?;
+    for words in [">reads ready 0<", ">sets ready 1<", ">ready<"] {
+        assert_eq!(rt; says(&picture, words), Some(true));
+    }
+    let between = drawn(rt.alloc(), PLAYED, "# 1 lock\n1 unlock\n")?;
+    assert!(rt; between.is_empty());
+    Ok(())
 }
