@@ -113,6 +113,7 @@ fn all_of(scope: Scope) -> u64
 fn begin(told: &mut Told)
     ensures status { told.new.status ≡ 0 }
     ensures all { told.new.all ≡ 0 }
+    ensures out { told.new.out ≡ 0 }
 {
     told.status = 0;
     told.out = 0;
