@@ -3,7 +3,7 @@
 # its line says. Those of the folder classic are answered so, too. And questions that are made at random are answered as tools/brute.py answers them, which knows nothing but the pages; of locks of one's
 # own that are made so none that is said to be proved goes wrong, two hold one at the end of its text, and else in none of the states explored; and their texts print what tools/own_locks.py says.
 test_explore() {
-    local text
+    local text stem err
     source tools/test_examples.sh
     is_built sync-explore || return
     is_built sync-play || return
@@ -24,8 +24,10 @@ test_explore() {
         fi
     done
     for text in examples/explore/*.told; do
-        attempt ./sync-explore --told <"${text%.told}.txt"
-        judge "./sync-explore --told, of $text" 0 "$text" /dev/null
+        stem=${text%.told}
+        err=$(compgen -G "$stem.err" || echo /dev/null)
+        attempt ./sync-explore --told <"$stem.txt"
+        judge "./sync-explore --told, of $text" "$(cat -- "$stem.status" 2>/dev/null || echo 0)" "$text" "$err"
     done
     # Each takes a minute or so where the machine has nothing else to do.
     local limit=600
