@@ -12,7 +12,7 @@ import sys
 
 # Each call that takes an allocator, and the test that sweeps its heap from nothing to enough.
 TESTED = {
-    "job_queue JobQueue::new": "a_queue_that_finds_no_memory",
+    "job_queue QueueOf::new": "a_queue_that_finds_no_memory",
     "job_queue QueueState::new": "a_state_that_finds_no_memory",
     "job_queue QueueState::starting_at": "a_state_that_finds_no_memory",
     "model_room Room::new": "a_room_that_finds_no_memory",

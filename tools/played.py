@@ -11,7 +11,8 @@ A case is a text and what is printed: behind `=>`, or below, indented by four bl
 
 Beside `=>`, lines are parted by ` / `. In quotes stand the bytes themselves: "spin 1\\r\\n". `for N from 2 to 64 ({N} lock / {N} run)` repeats lines, and
 in its braces stands any sum. A fault, as `line 1: bad number`, is written to standard error with all that comes after it, and the status is then 2;
-else 0, or what the last line says: `status 4`. To standard error goes a line `lost at line 7` too. Where of `sync-explore` nothing comes after it, what the program advises is not looked at.
+else 0, or what the last line says: `status 4`. To standard error goes what is said beside an answer, too: `lost at line 7`, `left out on the way: ..`,
+and what begins with `a call that`. Where of `sync-explore` nothing comes after it, what the program advises is not looked at.
 
 Prints each case that comes out otherwise, and then how many there are. The status is 0 where none does. A table without a case is wrong.
 """
@@ -25,7 +26,7 @@ REPETITION = re.compile(r"for N from (\d+) to (\d+) \(([^()]*)\)")
 SUM = re.compile(r"\{([^{}]*)\}")
 FAULT = re.compile(rb"^line \d+: .*", re.M | re.S)
 STATUS = re.compile(rb"^status (\d+)\n\Z", re.M)
-LOST = re.compile(rb"^lost at line \d+\n", re.M)
+ASIDE = re.compile(rb"^(?:lost at line \d+|left out on the way: .*|a call that .*)\n", re.M)
 
 
 def repeated(found):
@@ -60,8 +61,7 @@ def wanted_of(printed):
     status = STATUS.search(printed)
     if fault:
         return 2, printed[: fault.start()], fault[0]
-    lost = LOST.search(printed)
-    return int(status[1]) if status else 0, LOST.sub(b"", STATUS.sub(b"", printed)), lost[0] if lost else b""
+    return int(status[1]) if status else 0, ASIDE.sub(b"", STATUS.sub(b"", printed)), b"".join(ASIDE.findall(printed))
 
 
 def played(program, text):

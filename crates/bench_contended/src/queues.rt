@@ -4,7 +4,7 @@ ghost use Rattle.job_queue.specs.QueueShown.{IsQueuePass};
 use crate::race::Contended;
 use crate::work::Work;
 use crossbeam_channel::{Receiver, Sender, bounded};
-use iceoryx2_pal_concurrency_sync::{wake_nobody, yield_and_go_on};
+use iceoryx2_pal_concurrency_sync::yield_and_go_on;
 use job_queue::{JobQueue, QueuePass};
 use std::alloc::{AllocError, Global};
 use std::sync::Wait;
@@ -34,9 +34,11 @@ impl Contended<QueuePass> for Jobs {
 
     #[inline(always)]
     fn operate<R: Wait>(&self, rt: &R, pass: &mut QueuePass, work: &mut Work) {
-        let _ = self.queue.put(rt, pass, work.operations, wake_nobody);
+        let _ = self.queue.put(rt, pass, work.operations, |_| ());
         work.go();
-        let _ = self.queue.take(rt, pass, yield_and_go_on, wake_nobody);
+        let _ = self
+            .queue
+            .take(rt, pass, |word, seen| yield_and_go_on(word, seen), |_| ());
         work.go();
     }
 }

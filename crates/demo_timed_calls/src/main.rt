@@ -9,8 +9,8 @@ use iceoryx2_pal_concurrency_sync::strategy::condition_variable::{
     CondPass, ConditionVariable, Woken,
 };
 use iceoryx2_pal_concurrency_sync::strategy::mutex::{Mutex, MutexPass};
-use iceoryx2_pal_concurrency_sync::{Sleepers, WaitResult, WaitWord, wake_nobody};
-use job_queue::{JobQueue, QueuePass, QueueWord, Taken};
+use iceoryx2_pal_concurrency_sync::{Sleepers, WaitResult, WaitWord};
+use job_queue::{JobQueue, QueuePass, QueueState, QueueWord, Taken};
 use std::io;
 use std::sync::Wait;
 use std::time::{Clock, Duration, Instant};
@@ -142,8 +142,10 @@ fn take_in_time<R: Wait + Clock>(
 {
     let deadline = Instant::now(rt)?.checked_add(Duration::from_millis(10));
     let sleepers = Sleepers::new();
-    let wait = |word: &QueueWord, seen: &u64| sleepers.sleep_until(rt, word, *seen, deadline);
-    match queue.take(rt, pass, wait, wake_nobody) {
+    let wait = |word: &QueueWord<'_, QueueState<u64>>, seen: &u64| sleepers.sleep_until(
+        rt, word, *seen, deadline,
+    );
+    match queue.take(rt, pass, wait, |_| ()) {
         Taken::Job { ticket: _, job } => Ok(Some(job)),
         Taken::Closed | Taken::Interrupted => Ok(None),
         Taken::Empty => unreachable!(),

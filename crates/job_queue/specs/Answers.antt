@@ -1,13 +1,6 @@
 -- How the calls of a queue answer.
 use Rattle.job_queue.specs.declared.answer.PutFault.{PutFault}
 use Rattle.job_queue.specs.declared.answer.Taken.{Taken}
-use Rattle.running_condvar.specs.declared.Woken.{Woken}
-use Rattle.running_condvar.specs.declared.Woken.TheVariants.{Signalled, Unsignalled}
-
--- P holds where the wait gave up
-abbrev pub IfGaveUp : {H : Type 0} → Woken H → Type 0 → Type 0
-IfGaveUp (Signalled h) P = Unit {0}
-IfGaveUp (Unsignalled h) P = P
 
 module _ {T : Type 0} where
   -- the job that comes back

@@ -2,6 +2,4 @@ pub mod Answers
 pub mod Tickets
 pub mod Jobs
 pub mod StateShown
-pub mod Looks
-pub mod Locked
 pub mod QueueShown

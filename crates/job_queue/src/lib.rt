@@ -10,6 +10,6 @@ mod word;
 
 pub use answer::{PutFault, Taken};
 pub use pass::QueuePass;
-pub use queue::JobQueue;
-pub use state::QueueState;
+pub use queue::{JobQueue, QueueOf};
+pub use state::{KeepsJobs, QueueState};
 pub use word::QueueWord;

@@ -8,6 +8,22 @@ use crate::answer::{PutFault, Taken};
 use circular_buffer::HeapCircularBuffer;
 use std::alloc::{AllocError, Allocator, Global};
 
+/// What a queue that threads share keeps, under its lock: `QueueState`.
+pub trait KeepsJobs {
+    type Job: Drop;
+
+    /// What `QueueState::put` does.
+    fn put(&mut self, job: Self::Job) -> Result<u64, PutFault<Self::Job>>
+        ensures handed_back { IfErr result (λ fault. job_of fault ≡ job) };
+
+    /// What `QueueState::take` does.
+    fn take(&mut self) -> Taken<Self::Job>
+        ensures never_interrupted { ¬ IsInterrupted result };
+
+    /// What `QueueState::close` does.
+    fn close(&mut self);
+}
+
 /// The jobs that were put and not yet taken, the oldest first, each with its ticket: a bounded queue of one owner.
 ///
 /// Tickets are consecutive: `put` is the one that the next job gets, and `taken` that of the oldest job, or `put` where there is none. No
@@ -94,5 +110,21 @@ impl<T, A: Allocator> QueueState<T, A> {
         ensures closed { shown self.new ≡ closed_now (shown self.old) }
     {
         self.closed = true;
+    }
+}
+
+impl<T: Drop, A: Allocator> KeepsJobs for QueueState<T, A> {
+    type Job = T;
+
+    fn put(&mut self, job: T) -> Result<u64, PutFault<T>> {
+        QueueState::put(self, job)
+    }
+
+    fn take(&mut self) -> Taken<T> {
+        QueueState::take(self)
+    }
+
+    fn close(&mut self) {
+        QueueState::close(self)
     }
 }

@@ -68,7 +68,7 @@ impl<A: Allocator, S> Barrier<A, S> {
     ghost use Rattle.model_events.specs.declared.event.Answer.TheVariants as answers;
     ghost use Rattle.model_events.specs.declared.row.Intent.TheVariants as intents;
     ghost use Rattle.running_barrier.specs.Barrier.{barrier_model, no_rounds, word_of};
-    ghost use Rattle.running_passes.specs.Answers.{HasWoken};
+    ghost use Rattle.running_model.specs.Asked.{HasWokenOf};
     ghost use Rattle.running_passes.specs.Parts.{IsWhole};
     ghost use Rattle.running_passes.specs.Views.{first_view};
     ghost use Rattle.running_passes.specs.Passes.{view, part_of, sights_of, IsSamePass};
@@ -122,7 +122,7 @@ impl<A: Allocator, S> Barrier<A, S> {
         ensures full { IfErr result (λ _. HasPlayed (waiters_of self.now) answers.Full pass.old pass.new) }
         ensures some { 0 < waiters_of self.now → is_ok result ≡ true }
         ensures none { waiters_of self.now ≡ 0 → is_ok result ≡ false }
-        ensures woke { IfOk result (λ _. opened_of pass.old < opened_of pass.new → HasWoken K.Fn wake_all) }
+        ensures woke { IfOk result (λ _. opened_of pass.old < opened_of pass.new → HasWokenOf K.Fn (λ word. IsItsWord self.now (S.As.Shown.object word) (S.As.Shown.index word)) wake_all) }
     {
         // Read once: it would be loaded again after the exchange.
         let number_of_waiters = self.number_of_waiters;

@@ -6,9 +6,16 @@ use Rattle.running_model.proofs.Questions.{aborted_by, asked_by}
 use Rattle.std.specs.Fn.{Called, FnReturns}
 use Rattle.std.proofs.Common.{refl}
 use Rattle.std.specs.Prelude.{Some, Option}
-use Rattle.running_condvar.proofs.Names.{SleepsBy, WaitsPass, View, wrote, went_in, went_out, ◌∙◌, ap}
+use Rattle.running_condvar.proofs.Names.{SleepsBy, WaitsPass, View, wrote, went_in, went_out, ◌∙◌, ap, min}
 use Rattle.running_condvar.specs.Cond.{one_more}
+use Rattle.model_condvar.specs.Table.{permits_for}
+use Rattle.model_events.specs.declared.event.Wake.{Wake}
 use Rattle.running_condvar.specs.declared.waits.Waits.{Waits}
+
+-- so many permits are for those that were seen, and none where none was
+pub permits_are : (who : Wake) (waiting permits : ℕ) → (who ≡ Wake.One → permits ≡ min 1 waiting) → (who ≡ Wake.All → permits ≡ waiting) → (permits ≡ permits_for who waiting) × (waiting ≡ 0 → permits ≡ 0)
+permits_are Wake.One waiting permits one all = (one refl, λ none. one refl ∙ ap (min 1) none)
+permits_are Wake.All waiting permits one all = (all refl, λ none. all refl ∙ none)
 
 -- as many were given as are for those that were seen
 pub notifies : (for : ℕ → ℕ) (initial waiting permits : ℕ) (p q : CondPass) → initial ≡ 0 → permits ≡ for waiting → HasSeen waiting (waits_in p) (waits_in q) → HasPlayedCount Call.Value (Answer.Number waiting) p q →

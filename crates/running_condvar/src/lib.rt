@@ -176,11 +176,12 @@ impl CondPass {
 impl<A: Allocator, S> ConditionVariable<A, S> {
     ghost use Rattle.std.specs.Borrow.{sem};
     ghost use Rattle.std.specs.Prelude.{ℕ, List, ◌<◌, ◌⊎◌, min};
-    ghost use Rattle.running_passes.specs.Answers.{IfSuccess, IfInterrupted, IsSuccess, RestsIfInterrupted, HasWoken};
+    ghost use Rattle.running_passes.specs.Answers.{IfSuccess, IfInterrupted, IsSuccess, RestsIfInterrupted};
     ghost use Rattle.running_passes.specs.Parts.{IsWhole};
     ghost use Rattle.running_model.specs.Stages.{IsPassOf};
     ghost use Rattle.running_model.specs.Turns.{given_by};
-    ghost use Rattle.running_model.specs.Asked.{WokeOnce};
+    ghost use Rattle.running_model.specs.Asked.{WokeOnce, HasWokenOf};
+    ghost use Rattle.model_condvar.specs.Table.{permits_for};
     ghost use Rattle.running_model.specs.Counts.{HasSeen, HasDone};
     ghost use Rattle.running_passes.specs.Passes.{view, part_of};
     ghost use Rattle.running_passes.specs.Views.{first_view};
@@ -226,10 +227,9 @@ impl<A: Allocator, S> ConditionVariable<A, S> {
         requires may { W.IsAlwaysCallable wake_one }
         ensures posted { HasNotified (λ waiting. min 1 waiting) pass.old pass.new }
         ensures exact { IsWhole (part_of (waits_in pass.old)) → HasGiven 0 0 pass.old pass.new }
-        ensures woke { HasWoken W.Fn wake_one }
+        ensures woke { HasWokenOf W.Fn (λ word. IsPermitsWord self.now (S.As.Shown.object word) (S.As.Shown.index word)) wake_one }
     {
-        let waiting = self.waiting(&mut pass.waits);
-        self.semaphore.post(&mut pass.permits, wake_one, permits_for(Wake::One, waiting));
+        let _wake = self.notify_by(Wake::One, pass, wake_one);
     }
 
     /// Looks at the count of those that wait, gives as many permits, and then calls the wake closure once, also for none.
@@ -245,10 +245,9 @@ impl<A: Allocator, S> ConditionVariable<A, S> {
         requires may { W.IsAlwaysCallable wake_all }
         ensures posted { HasNotified (λ waiting. waiting) pass.old pass.new }
         ensures exact { IsWhole (part_of (waits_in pass.old)) → HasGiven 0 0 pass.old pass.new }
-        ensures woke { HasWoken W.Fn wake_all }
+        ensures woke { HasWokenOf W.Fn (λ word. IsPermitsWord self.now (S.As.Shown.object word) (S.As.Shown.index word)) wake_all }
     {
-        let waiting = self.waiting(&mut pass.waits);
-        self.semaphore.post(&mut pass.permits, wake_all, permits_for(Wake::All, waiting));
+        let _wake = self.notify_by(Wake::All, pass, wake_all);
     }
 
     /// Counts the wait in, unlocks the mutex and calls its wake closure, waits for a permit as the semaphore's `wait` does, counts the
@@ -291,7 +290,7 @@ impl<A: Allocator, S> ConditionVariable<A, S> {
         ensures exact { IsWhole (part_of (pass_of hold.entry)) → IsSuccess result }
         ensures some { IsWhole (part_of (permits_in pass.old)) → 0 < worth_of (permits_in pass.old) → HasTakenOne this.now pass.old pass.new }
         ensures none { IsWhole (part_of (permits_in pass.old)) → worth_of (permits_in pass.old) ≡ 0 → HasNotTaken this.now W.Fn wait pass.old pass.new }
-        ensures woke { HasWoken K.Fn mtx_wake_one }
+        ensures woke { HasWokenOf K.Fn (λ word. IsMutexWord mtx.now (Q.As.Shown.object word) (Q.As.Shown.index word)) mtx_wake_one }
     {
         let MutexHold { pass: mtx_pass } = hold;
         let (signalled, _, _) = this.unlock_and_sleep(
@@ -355,7 +354,7 @@ impl<A: Allocator, S> ConditionVariable<A, S> {
         ensures exact { IsWhole (part_of (pass_of hold.entry)) → IsSuccess (woken_of result) }
         ensures some { IsWhole (part_of (permits_in pass.old)) → 0 < worth_of (permits_in pass.old) → HasTakenOne this.now pass.old pass.new }
         ensures none { IsWhole (part_of (permits_in pass.old)) → worth_of (permits_in pass.old) ≡ 0 → HasNotTaken this.now W.Fn wait pass.old pass.new }
-        ensures woke { HasWoken K.Fn mtx_wake_one }
+        ensures woke { HasWokenOf K.Fn (λ word. IsMutexWord mtx.now (Q.As.Shown.object word) (Q.As.Shown.index word)) mtx_wake_one }
     {
         CondResult::from(Self::wait_held(hold, this, rt, pass, mtx, mtx_wake_one, wait, mtx_wait))
     }
@@ -397,6 +396,25 @@ impl<A: Allocator, S> ConditionVariable<A, S> {
         ensures its { IsPermitsWord self.now (X.Shown.object result.shown) (X.Shown.index result.shown) }
     {
         self.semaphore.word()
+    }
+
+    /// What a notify does, by a closure that counts its calls. Gives it back.
+    #[inline(always)]
+    fn notify_by<'t, X: OfWord<SemaphoreWord<'t>>, W: FnMut(&X)>(
+        &'t self,
+        who: Wake,
+        pass: &mut CondPass,
+        wake: W,
+    ) -> W
+        requires own { IsCondPass self.now pass.old }
+        requires may { W.IsAlwaysCallable wake }
+        ensures posted { HasNotified (permits_for who) pass.old pass.new }
+        ensures exact { IsWhole (part_of (waits_in pass.old)) → HasGiven 0 0 pass.old pass.new }
+        ensures woke { WokeOnce W.FnMut (λ word. IsPermitsWord self.now (X.Shown.object word) (X.Shown.index word)) wake result }
+    {
+        let waiting = self.waiting(&mut pass.waits);
+        self.semaphore
+            .post_by(&mut pass.permits, wake, permits_for(who, waiting))
     }
 
     /// What `wait_around` does.

@@ -1,5 +1,5 @@
 -- What a call of a closure tells that acts on a value, and what look after look tells.
-use Rattle.running_guarded.proofs.Names.{Option, MutBor, Bor, Mut, Called, WaitAction, Bool, true, false, Some, None, ◌≡◌, ◌≤◌, ℕ, ◌+◌, suc, List, [], ◌∷◌, refl, sym, ap, subst, ◌∙◌, arith, Answer, Often, HasAnswered, HasWaitedOften, HasLockedOften, grants_of}
+use Rattle.running_guarded.proofs.Names.{Option, MutBor, Bor, Mut, Called, WaitAction, Bool, true, false, Some, None, ◌≡◌, ◌≤◌, ℕ, ◌+◌, suc, List, [], ◌∷◌, refl, sym, ap, subst, ◌∙◌, arith, Answer, Often, HasAnswered, HasWaitedOften, HasLockedOften, GuardedPass, PlaysBoth, grants_of, view}
 use Rattle.std.proofs.Common.{zero, inl, inr, ◌⊎◌}
 use Rattle.std.proofs.lemmas.Bool.{true≢false}
 use Rattle.std.specs.List.{FoldsTo}
@@ -17,9 +17,12 @@ use Rattle.running_condvar.specs.declared.CondPass.{CondPass}
 use Rattle.running_condvar.specs.declared.ConditionVariable.{ConditionVariable}
 use Rattle.running_model.specs.Asked.{AskedOnce, WokeOnce}
 use Rattle.running_model.proofs.Questions.{aborted_by}
-use Rattle.running_guarded.proofs.Looks.{locks_again}
 use Rattle.running_guarded.specs.Acting.{HasAnsweredAfter, Looker, LooksOnce, LooksUntil, permits_of, given_by, slept_by, answer_of}
 use Rattle.running_guarded.specs.declared.when.Looked.{Looked}
+
+-- locked once more
+locks_again : (times : ℕ) (p q r : GuardedPass) → HasLockedOften times p q → grants_of r ≡ grants_of q + 1 → PlaysBoth (view q) (view r) → HasLockedOften (suc times) p r
+locks_again times p q r often granted both = record { granted = omega (arith, often.granted, granted); played = (view q, often.played, both) }
 
 module _ {F T X : Type 0} (g : Mut F (MutBor T × Unit {0}) (Option X × (MutBor T × Unit {0}))) where
   pub answered : (f f' : F) (y y' : MutBor T) (answer : Option X) → Called g f (y, tt) (answer, (y', tt)) f' → HasAnswered g answer f f'

@@ -2,4 +2,3 @@ pub mod Names
 pub mod GuardedSights
 pub mod SameGuard
 pub mod Acting
-pub mod Looks

@@ -2,7 +2,7 @@
 ghost use Rattle.std.specs.Prelude.{◌≡◌, ℕ, ◌<◌, ◌+◌, List, [], ◌∷◌, IfOk, IfErr, Some, None, true, false, MatchBool};
 ghost use Rattle.running_passes.specs.Parts.{IsWhole};
 ghost use Rattle.running_passes.specs.Views.{first_view};
-ghost use Rattle.running_passes.specs.Answers.{MayAnswerAbort, HasWoken};
+ghost use Rattle.running_passes.specs.Answers.{MayAnswerAbort};
 ghost use Rattle.model_events.specs.declared.event.Word.TheVariants as words;
 ghost use Rattle.model_events.specs.declared.event.Call.TheVariants as calls;
 ghost use Rattle.model_events.specs.declared.event.Answer.TheVariants as answers;
@@ -11,7 +11,7 @@ ghost use Rattle.model_events.specs.declared.row.Intent.TheVariants as intents;
 ghost use Rattle.model_events.specs.declared.WaitAction.TheVariants as actions;
 ghost use Rattle.model_mutex.specs.declared.MutexPlace.TheVariants as places;
 ghost use Rattle.running_mutex.specs.Mutex.{mutex_model};
-ghost use Rattle.running_model.specs.Asked.{Asked, WokeOnce};
+ghost use Rattle.running_model.specs.Asked.{Asked, WokeOnce, HasWokenOf};
 ghost use Rattle.running_model.specs.Slots.{Slot};
 ghost use Rattle.running_model.specs.Plays.{Beginning, MayStep};
 ghost use Rattle.running_model.specs.Tries.{spun, IsRefused, IsStanding, IsGranted, HasGivenUp as HasEndedRefused, OnceRefused, OnceStanding};
@@ -19,6 +19,7 @@ ghost use Rattle.running_mutex.specs.MutexParties.{HasMutex};
 ghost use Rattle.running_mutex.specs.MutexShown.{IsLocked};
 ghost use Rattle.running_spin_lock.specs.ValueRule.{none_held};
 ghost use Rattle.running_spin_lock.specs.ValueSteps.{Locks, Lets, Enters, HasValue, has_vacant_slot};
+ghost use Rattle.running_guarded.specs.GuardedWord.{object_shown};
 ghost use Rattle.running_guarded.specs.GuardedRule.{GrantsAreOfARun, OneHolderAtMost};
 ghost use Rattle.running_guarded.specs.GuardedSteps.{SeesLocked, Tries, SeesLockedOften, StaysLocked, GivesUp, Plays, PlaysUnlock, PlaysBoth, Acts};
 
@@ -50,7 +51,6 @@ pub struct Guarded<T, A: Allocator = Global> {
 
 impl<T, A: Allocator> Guarded<T, A> {
     ghost use Rattle.running_guarded.specs.GuardedShown.{id_of, object_of, number_of, view};
-    ghost use Rattle.running_guarded.specs.GuardedWord.{object_shown};
 
     /// One exchange of 0 for 1, and whether it was done. Then the value is out with the seat.
     #[inline(always)]
@@ -220,35 +220,9 @@ impl<T, A: Allocator> Guarded<T, A> {
         (free, turn.end())
     }
 
-    /// What `unlock` does, by the seat that has the slot.
+    /// What `unlock` does, by the seat that has the slot and a closure that counts its calls. Gives it back.
     #[inline(always)]
-    fn leave<W: Fn(&GuardedWord<'_, T>)>(
-        &self,
-        seat: Seat<Option<T>, View<PlayedMutex>>,
-        value: T,
-        wake_one: &W,
-    ) -> Seat<Option<T>, View<PlayedMutex>>
-        requires own { seat.table_id ≡ id_of self.now }
-        requires on { seat.me.0.tally.counts.holds ≡ 1 }
-        requires has { HasMutex seat.me.0.tally.parties }
-        requires alive { 0 < seat.me.0.part.share }
-        requires vacant { has_vacant_slot seat.me.1 ≡ true }
-        requires may { W.IsAlwaysCallable wake_one.now }
-        ensures same { (result.table_id ≡ seat.table_id) × (result.id ≡ seat.id) }
-        ensures off { Lets seat.me.0 result.me.0 }
-        ensures played { PlaysUnlock seat.me.0 result.me.0 }
-        ensures no_slot { result.me.1 ≡ [] }
-        ensures woke { HasWoken W.Fn wake_one.now }
-    {
-        let shared = &self.table.shared;
-        let turn = slot::release::<T, MutexScript, MutexPlace, UnlockCall>(shared, seat, value);
-        let (woken, _wake_one) = turn.wake(&self.word(), wake_one);
-        woken.end_aside()
-    }
-
-    /// The same by a closure that counts its calls. Gives it back.
-    #[inline(always)]
-    pub(crate) fn leave_by<W: FnMut(&GuardedWord<'_, T>)>(
+    pub(crate) fn leave<W: FnMut(&GuardedWord<'_, T>)>(
         &self,
         seat: Seat<Option<T>, View<PlayedMutex>>,
         value: T,
@@ -303,20 +277,21 @@ impl<T, A: Allocator> Guarded<T, A> {
         &self,
         seat: Seat<Option<T>, View<PlayedMutex>>,
         value: T,
-        wake_one: &W,
+        wake_one: W,
     ) -> GuardedPass
         requires own { seat.table_id ≡ id_of self.now }
         requires on { seat.me.0.tally.counts.holds ≡ 1 }
         requires has { HasMutex seat.me.0.tally.parties }
         requires alive { 0 < seat.me.0.part.share }
         requires vacant { has_vacant_slot seat.me.1 ≡ true }
-        requires may { W.IsAlwaysCallable wake_one.now }
+        requires may { W.IsAlwaysCallable wake_one }
         ensures same { (object_of result ≡ seat.table_id) × (number_of result ≡ seat.id) }
         ensures off { Lets seat.me.0 (view result) }
         ensures played { PlaysUnlock seat.me.0 (view result) }
-        ensures woke { HasWoken W.Fn wake_one.now }
+        ensures woke { HasWokenOf W.Fn (λ word. object_shown word ≡ id_of self.now) wake_one }
     {
-        GuardedPass::seated(self.leave(seat, value, wake_one))
+        let (left, _wake) = self.leave(seat, value, wake_one);
+        GuardedPass::seated(left)
     }
 
     /// The word, as closures see it.
@@ -332,7 +307,7 @@ impl<T, A: Allocator> Guarded<T, A> {
     ghost use Rattle.std.specs.Borrow.{sem};
     ghost use Rattle.running_passes.specs.Answers.{IfSuccess, IfInterrupted, IsSuccess, RestsIfInterrupted};
     ghost use Rattle.running_guarded.specs.contracts.pass.GuardedPass.{the_row};
-    ghost use Rattle.running_guarded.specs.GuardedShown.{IsGuardedPass, IsAlone, part_of, view, view_with, borrow_of, HasLocked, HasEntered, HasSeenLocked, HasGivenUp, HasUnlocked, HasStayed, HasLockedOnce};
+    ghost use Rattle.running_guarded.specs.GuardedShown.{IsGuardedPass, IsAlone, part_of, view, view_with, id_of, id_in, borrow_of, HasLocked, HasEntered, HasSeenLocked, HasGivenUp, HasUnlocked, HasStayed, HasLockedOnce};
 
     /// Locks the value as `Mutex::lock` locks a mutex: one exchange of 0 for 1, up to 10000 more, and then the wait closure, told 1,
     /// before each further one. `Interrupted` where an exchange failed after the closure had answered `Abort`; then this call has nothing.
@@ -402,7 +377,7 @@ impl<T, A: Allocator> Guarded<T, A> {
         ensures same_borrow { result.ghost_name ≡ borrow_of guard.entry }
         ensures released { HasUnlocked guard.entry result.now }
         ensures played { PlaysUnlock (view_with guard.entry) (view result.now) }
-        ensures woke { HasWoken W.Fn wake_one }
+        ensures woke { HasWokenOf W.Fn (λ word. object_shown word ≡ id_in guard.entry) wake_one }
     {
         let Guard {
             of,
@@ -410,7 +385,8 @@ impl<T, A: Allocator> Guarded<T, A> {
             seat,
             value,
         } = guard;
-        *pass = GuardedPass::seated(of.leave(seat, value, &wake_one));
+        let (left, _) = of.leave(seat, value, wake_one);
+        *pass = GuardedPass::seated(left);
         pass
     }
 
@@ -434,7 +410,7 @@ impl<T, A: Allocator> Guarded<T, A> {
         ensures exact { IsAlone pass.old → IsSuccess result }
         ensures acted { IfSuccess result (λ x. Acts F.FnOnce act x) }
         ensures aborted { IfInterrupted result (MayAnswerAbort W.Fn wait IsLocked) }
-        ensures woke { IfSuccess result (λ _. HasWoken K.Fn wake_one) }
+        ensures woke { IfSuccess result (λ _. HasWokenOf K.Fn (λ word. object_shown word ≡ id_of self.now) wake_one) }
     {
         let (granted, mut seat) = self.enter(pass.rise(), rt, wait);
         if !granted {
@@ -443,7 +419,8 @@ impl<T, A: Allocator> Guarded<T, A> {
         }
         let mut value = slot::take(&self.table.shared, &mut seat);
         let given = act(&mut value);
-        *pass = GuardedPass::seated(self.leave(seat, value, &wake_one));
+        let (left, _) = self.leave(seat, value, wake_one);
+        *pass = GuardedPass::seated(left);
         WaitResult::Success(given)
     }
 

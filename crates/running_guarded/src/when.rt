@@ -1,6 +1,6 @@
 //! A call that waits until it can act on the value, and one that changes it for those that wait.
 ghost use Rattle.std.specs.Prelude.{◌≡◌, ℕ, suc, ◌<◌, ◌≤◌, ◌+◌, true, false, Some, None};
-ghost use Rattle.running_passes.specs.Answers.{IfInterrupted, MayAnswerAbort, HasWoken};
+ghost use Rattle.running_passes.specs.Answers.{IfInterrupted, MayAnswerAbort};
 ghost use Rattle.running_semaphore.specs.SemaphoreShown.{IsEmpty};
 ghost use Rattle.running_mutex.specs.MutexParties.{HasMutex};
 ghost use Rattle.running_condvar.specs.CondShown.{IsCondPass, IsPermitsWord, HasNotified, HasSlept, permits_in, HasStayed as HasWaitedAtMost};
@@ -8,7 +8,7 @@ ghost use Rattle.running_condvar.specs.Often.{HasWaitedOften};
 ghost use Rattle.running_spin_lock.specs.ValueSteps.{Lets, has_vacant_slot};
 ghost use Rattle.running_guarded.specs.GuardedSteps.{Acts, PlaysUnlock, PlaysBoth};
 ghost use Rattle.running_guarded.specs.GuardedShown.{IsGuardedPass, HasStayed, HasLockedOnce, HasLockedOften, grants_of, object_of, number_of, view, id_of};
-ghost use Rattle.running_model.specs.Asked.{WokeOnce};
+ghost use Rattle.running_model.specs.Asked.{WokeOnce, HasWokenOf};
 ghost use Rattle.running_guarded.specs.GuardedWord.{object_shown};
 ghost use Rattle.running_guarded.specs.Acting.{HasAnswered, HasAnsweredAfter, answer_of, given_by, slept_by, permits_of, Sleeps, LooksUntil};
 
@@ -70,7 +70,7 @@ impl<T: Drop, A: Allocator> Guarded<T, A> {
         ensures aborted { IfInterrupted result (MayAnswerAbort W.Fn wait IsEmpty) }
         ensures looked { (waits : ℕ) × HasLockedOften (suc waits) pass.old pass.new × HasWaitedOften changed.now waits changed_pass.old changed_pass.new × HasAnsweredAfter F.FnMut waits (answer_of result) act }
         ensures looked_again { IfInterrupted result (grants_of pass.old + 2 ≤ grants_of pass.new) }
-        ensures woke { HasWoken K.Fn wake_one }
+        ensures woke { HasWokenOf K.Fn (λ seen. object_shown seen ≡ id_of self.now) wake_one }
     {
         let mut act = act;
         let word = changed.word();
@@ -119,7 +119,7 @@ impl<T: Drop, A: Allocator> Guarded<T, A> {
         ensures played { PlaysBoth (view pass.old) (view pass.new) }
         ensures acted { Acts F.FnOnce act result }
         ensures notified { HasNotified (λ waiting. waiting) changed_pass.old changed_pass.new }
-        ensures woke { HasWoken K.Fn wake_one × HasWoken N.Fn wake_all }
+        ensures woke { HasWokenOf K.Fn (λ seen. object_shown seen ≡ id_of self.now) wake_one × HasWokenOf N.Fn (λ seen. IsPermitsWord changed.now (S.As.Shown.object seen) (S.As.Shown.index seen)) wake_all }
     {
         match self.with(rt, pass, |_, _| go_on(), wake_one, act) {
             WaitResult::Success(given) => {
@@ -221,7 +221,7 @@ impl<T: Drop, A: Allocator> Guarded<T, A> {
         let (seat, mut value) = self.enter_soon(pass.rise(), rt);
         match act(&mut value) {
             Some(given) => {
-                let (left, woken) = self.leave_by(seat, value, wake_one);
+                let (left, woken) = self.leave(seat, value, wake_one);
                 *pass = GuardedPass::seated(left);
                 (Looked::Acted(given), woken, wait)
             }
@@ -285,7 +285,7 @@ impl<T: Drop, A: Allocator> Guarded<T, A> {
                 requires { (seat.table_id ≡ id_of self.now) × (seat.me.0.tally.counts.holds ≡ 1) × HasMutex seat.me.0.tally.parties × 0 < seat.me.0.part.share × (has_vacant_slot seat.me.1 ≡ true) × K.IsAlwaysCallable wake_one }
                 ensures { ((object_of result.0 ≡ seat.table_id) × (number_of result.0 ≡ seat.id)) × Lets seat.me.0 (view result.0) × PlaysUnlock seat.me.0 (view result.0) × K.IsAlwaysCallable result.1 × WokeOnce K.FnMut (λ seen. object_shown seen ≡ id_of self.entry.now) wake_one result.1 }
             {
-                let (left, woken) = self.leave_by(seat, value, wake_one);
+                let (left, woken) = self.leave(seat, value, wake_one);
                 (GuardedPass::seated(left), woken)
             },
             word,
@@ -312,7 +312,7 @@ impl<T: Drop, A: Allocator> Guarded<T, A> {
     {
         let (seat, mut value) = self.enter_soon(pass.rise(), rt);
         let given = act(&mut value);
-        let (left, woken) = self.leave_by(seat, value, wake_one);
+        let (left, woken) = self.leave(seat, value, wake_one);
         *pass = GuardedPass::seated(left);
         match given {
             Some(given) => (WaitResult::Success(given), woken),

@@ -1,5 +1,5 @@
 -- What the tries of a `lock` come to, one after another.
-use Rattle.running_mutex.proofs.Names.{Bor, WaitAction, Word, View, IsWhole, part_of, sights_of, IsNamed, HasMoved, WasRefused, WasRefusedAt, Holds, ◌≡◌, ℕ, ◌+◌, Bool, false, MatchBool, true≢false, ◌∙◌, [], ◌∷◌, refl, sym, ap, subst, arith, MutexPass, HasAskedToLock, IsLocked, IsAlone, Enters, HasLocked, HasSeenLocked, HasUnlocked, HasEntered, nat_tests, eqb-true, eqb-false}
+use Rattle.running_mutex.proofs.Names.{Bor, WaitAction, Word, View, IsWhole, part_of, sights_of, IsNamed, HasMoved, WasRefused, Holds, ◌≡◌, ℕ, ◌+◌, Bool, false, MatchBool, true≢false, ◌∙◌, [], ◌∷◌, refl, sym, ap, subst, arith, MutexPass, HasAskedToLock, IsLocked, IsAlone, Enters, HasLocked, HasSeenLocked, HasUnlocked, HasEntered, nat_tests, eqb-true, eqb-false}
 use Rattle.running_model.proofs.Attempts.{missed_once, told_after}
 use Rattle.running_model.specs.Asked.{AskedAfter}
 use Rattle.std.specs.Fn.{Mut}
@@ -10,10 +10,6 @@ locks_once p q h1 = grind (arith, nat_tests, eqb-true, eqb-false)
 
 pub sees_once : (p q : MutexPass) → HasSeenLocked p q → (sights_of q).count ≡ (sights_of p).count + 1
 sees_once p q saw = ap (λ (v : View Holds). v.sights.count) saw.1
-
--- the value that was seen is what a locked mutex has
-pub refused_at : (seen : ℕ) (p q : MutexPass) → seen ≡ 1 → HasSeenLocked p q → WasRefusedAt IsLocked seen 1 p q
-refused_at seen p q h1 h2 = grind (arith, nat_tests, eqb-true, eqb-false, missed_once, sees_once)
 
 pub refused_once : (p q : MutexPass) → HasSeenLocked p q → WasRefused IsLocked 1 p q
 refused_once p q saw = let count = sees_once p q saw in record { stayed = missed_once 0 1 p q saw; looked = record { more = omega (arith, count); refusing = ap (λ (v : View Holds). v.sights.last) saw.1 } }

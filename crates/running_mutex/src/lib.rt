@@ -76,13 +76,13 @@ impl<A: Allocator, S> Mutex<A, S> {
     ghost use Rattle.model_events.specs.declared.row.Intent.TheVariants as intents;
     ghost use Rattle.running_for_one.specs.ForOne.{no_holds};
     ghost use Rattle.running_mutex.specs.Mutex.{mutex_model};
-    ghost use Rattle.running_passes.specs.Answers.{IfSuccess, IfInterrupted, IsSuccess, RestsIfInterrupted, MayAnswerAbort, HasWoken};
+    ghost use Rattle.running_passes.specs.Answers.{IfSuccess, IfInterrupted, IsSuccess, RestsIfInterrupted, MayAnswerAbort};
     ghost use Rattle.running_passes.specs.Passes.{view};
     ghost use Rattle.running_passes.specs.Views.{first_view};
     ghost use Rattle.running_model.specs.Slots.{no_parties};
     ghost use Rattle.running_model.specs.Plays.{MayStep, Beginning};
     ghost use Rattle.running_model.specs.Passes.{played};
-    ghost use Rattle.running_model.specs.Asked.{WokeOnce};
+    ghost use Rattle.running_model.specs.Asked.{WokeOnce, HasWokenOf};
     ghost use Rattle.running_model.specs.Counts.{HasGivenUp, WasRefused};
     ghost use Rattle.running_model.specs.Stages.{id_of};
     ghost use Rattle.running_mutex.specs.MutexShown.{mutex_row, IsMutexPass, IsItsWord, IsAlone, IsLocked, holds_of, grants_of, pass_of, borrow_of, HasLocked, HasSeenLocked, HasUnlocked, HasEntered, HasStayed, HasTried, HasPlayed, HasPlayedUnlock, HasPlayedBoth, HasAskedToLock};
@@ -139,7 +139,7 @@ impl<A: Allocator, S> Mutex<A, S> {
         ensures same_borrow { result.ghost_name ≡ borrow_of hold.entry }
         ensures released { HasUnlocked (pass_of hold.entry) result.now }
         ensures played { HasPlayedUnlock (pass_of hold.entry) result.now }
-        ensures woke { HasWoken W.Fn wake_one }
+        ensures woke { HasWokenOf W.Fn (λ word. IsItsWord self.now (S.As.Shown.object word) (S.As.Shown.index word)) wake_one }
     {
         let MutexHold { pass } = hold;
         let _wake = self.leave(pass, wake_one);
@@ -187,7 +187,7 @@ impl<A: Allocator, S> Mutex<A, S> {
         ensures exact { IsAlone pass.old → IsSuccess result }
         ensures acted { IfSuccess result (λ x. F.post act x) }
         ensures aborted { IfInterrupted result (MayAnswerAbort W.Fn wait IsLocked) }
-        ensures woke { IfSuccess result (λ _. HasWoken K.Fn wake_one) }
+        ensures woke { IfSuccess result (λ _. HasWokenOf K.Fn (λ word. IsItsWord self.now (S.As.Shown.object word) (S.As.Shown.index word)) wake_one) }
     {
         match Self::lock(pass, self, rt, wait) {
             WaitResult::Success(hold) => {

@@ -9,7 +9,8 @@ use Rattle.running_model.specs.contracts.played.Played as played_row
 use Rattle.running_rw_hold.specs.contracts.rw_reader.RwReaderScript as script_row
 use Rattle.model_rw_reader.specs.contracts.RwReaderPlace as place_row
 use Rattle.running_rw_hold.specs.contracts.held.Held as held_row
-use Rattle.running_model.specs.Stages.{IsPassOf}
+use Rattle.running_model.specs.Stages.{IsPassOf, id_of}
+use Rattle.atomic_table.specs.Seated.{TableId}
 use Rattle.running_rw_reader.specs.declared.RwLockReaderPreference.{RwLockReaderPreference}
 use Rattle.running_rw_hold.specs.RwShown.{IsReadHold, IsWriteHold, kind_of, pass_of, TurnsAway}
 use Rattle.running_rw_reader.specs.RwReaderParties.{Unlocks}
@@ -25,6 +26,10 @@ reader_row = the_row (played_row.the_row script_row.the_row place_row.the_row u6
 
 abbrev pub IsRwReaderPass : {A S : Type 0} → RwLockReaderPreference A S → RwReaderPass → Type 0
 IsRwReaderPass l p = IsPassOf l.stage p
+
+-- this is its word, by its object and which of that object's words it is
+abbrev pub IsItsWord : {A S : Type 0} → RwLockReaderPreference A S → TableId → ℕ → Type 0
+IsItsWord l object index = (object ≡ id_of l.stage) × (index ≡ 0)
 
 -- how many of the pass's read holds stand, and how many of its write holds
 abbrev pub reads_of : RwReaderPass → ℕ

@@ -63,7 +63,8 @@ impl<A: Allocator, S> RwLockReaderPreference<A, S> {
     ghost use Rattle.model_events.specs.declared.event.Call.TheVariants as calls;
     ghost use Rattle.model_events.specs.declared.event.Answer.TheVariants as answers;
     ghost use Rattle.model_events.specs.declared.hold.HoldKind.TheVariants as kinds;
-    ghost use Rattle.running_passes.specs.Answers.{IfSuccess, IfInterrupted, IsSuccess, RestsIfInterrupted, MayAnswerAbort, HasAsked, HasWoken};
+    ghost use Rattle.running_passes.specs.Answers.{IfSuccess, IfInterrupted, IsSuccess, RestsIfInterrupted, MayAnswerAbort, HasAsked};
+    ghost use Rattle.running_model.specs.Asked.{HasWokenOf};
     ghost use Rattle.running_passes.specs.Parts.{IsWhole};
     ghost use Rattle.running_passes.specs.Passes.{view, part_of};
     ghost use Rattle.running_passes.specs.Views.{first_view};
@@ -72,7 +73,7 @@ impl<A: Allocator, S> RwLockReaderPreference<A, S> {
     ghost use Rattle.running_rw_hold.specs.RwShown.{IsReadHold, IsWriteHold, pass_of, borrow_of};
     ghost use Rattle.running_rw_hold.specs.RwReader.{no_holds};
     ghost use Rattle.running_rw_reader.specs.RwReaderSteps.{word_of};
-    ghost use Rattle.running_rw_reader.specs.RwReaderShown.{reader_row, IsRwReaderPass, IsAlone, IsShut, IsTaken, WasTurnedAway, HasEnteredToRead, HasEnteredToWrite, HasReadAtOnce, HasWrittenAtOnce, HasSeenTaken, HasUnlocked, HasPlayed, HasPlayedUnlock};
+    ghost use Rattle.running_rw_reader.specs.RwReaderShown.{reader_row, IsRwReaderPass, IsItsWord, IsAlone, IsShut, IsTaken, WasTurnedAway, HasEnteredToRead, HasEnteredToWrite, HasReadAtOnce, HasWrittenAtOnce, HasSeenTaken, HasUnlocked, HasPlayed, HasPlayedUnlock};
 
     /// A lock that is free, and the pass that is whole. `Err` where there was no memory; then nothing was made.
     pub fn new(alloc: A) -> Result<(RwLockReaderPreference<A, S>, RwReaderPass), AllocError>
@@ -155,7 +156,7 @@ impl<A: Allocator, S> RwLockReaderPreference<A, S> {
         ensures same_borrow { result.ghost_name ≡ borrow_of hold.entry }
         ensures released { HasUnlocked hold.entry result.now }
         ensures played { HasPlayedUnlock hold.entry result.now }
-        ensures woke { HasWoken W.Fn wake_one }
+        ensures woke { HasWokenOf W.Fn (λ word. IsItsWord self.now (S.As.Shown.object word) (S.As.Shown.index word)) wake_one }
     {
         match hold {
             RwHold::Read(hold) => self.unlock_read(end_read_hold(hold), wake_one),

@@ -105,10 +105,10 @@ impl<A: Allocator, S> ReadSteps<RwReaderScript, RwReaderPlace, Held<()>>
 impl<A: Allocator, S> RwLockReaderPreference<A, S> {
     ghost use Rattle.std.specs.Prelude.{true};
     ghost use Rattle.model_events.specs.declared.hold.HoldKind.TheVariants as kinds;
-    ghost use Rattle.running_passes.specs.Answers.{HasWoken};
+    ghost use Rattle.running_model.specs.Asked.{HasWokenOf};
     ghost use Rattle.running_model.specs.Passes.{parties_of};
     ghost use Rattle.running_rw_reader.specs.RwReaderParties.{has_hold, Unlocks};
-    ghost use Rattle.running_rw_reader.specs.RwReaderShown.{IsRwReaderPass, reads_of, HasLeftReading};
+    ghost use Rattle.running_rw_reader.specs.RwReaderShown.{IsRwReaderPass, IsItsWord, reads_of, HasLeftReading};
 
     /// What `unlock` does with a read hold.
     #[inline(always)]
@@ -124,7 +124,7 @@ impl<A: Allocator, S> RwLockReaderPreference<A, S> {
         ensures same_borrow { result.ghost_name ≡ pass.entry.ghost_name }
         ensures released { HasLeftReading pass.old result.now }
         ensures played { Unlocks kinds.Read (parties_of pass.old) (parties_of result.now) }
-        ensures woke { HasWoken W.Fn wake_one }
+        ensures woke { HasWokenOf W.Fn (λ word. IsItsWord self.now (X.Shown.object word) (X.Shown.index word)) wake_one }
     {
         let begun = begin_held::<UnlockCall, RwReaderPass>(pass);
         let turn = self.leave_reading(begun);

@@ -20,12 +20,13 @@ impl<A: Allocator, S> RwLockReaderPreference<A, S> {
     ghost use Rattle.model_events.specs.declared.hold.HoldKind.TheVariants as kinds;
     ghost use Rattle.model_events.specs.declared.row.Intent.TheVariants as intents;
     ghost use Rattle.running_rw_hold.specs.RwReader.{rw_reader_model};
-    ghost use Rattle.running_passes.specs.Answers.{MayAnswerAbort, HasWoken};
+    ghost use Rattle.running_passes.specs.Answers.{MayAnswerAbort};
+    ghost use Rattle.running_model.specs.Asked.{HasWokenOf};
     ghost use Rattle.running_passes.specs.Passes.{sights_of};
     ghost use Rattle.running_model.specs.Plays.{Beginning, MayStep, Went};
     ghost use Rattle.running_model.specs.Counts.{HasGivenUp};
     ghost use Rattle.running_rw_reader.specs.RwReaderParties.{has_hold, Unlocks};
-    ghost use Rattle.running_rw_reader.specs.RwReaderShown.{IsRwReaderPass, IsAlone, IsTaken, writes_of, HasEnteredToWrite, HasWrittenAtOnce, HasSeenTaken, HasLeftWriting, HasPlayed};
+    ghost use Rattle.running_rw_reader.specs.RwReaderShown.{IsRwReaderPass, IsItsWord, IsAlone, IsTaken, writes_of, HasEnteredToWrite, HasWrittenAtOnce, HasSeenTaken, HasLeftWriting, HasPlayed};
 
     /// What `try_write_lock` does, and whether the hold is on.
     #[inline(always)]
@@ -138,7 +139,7 @@ impl<A: Allocator, S> RwLockReaderPreference<A, S> {
         ensures same_borrow { result.ghost_name ≡ pass.entry.ghost_name }
         ensures released { HasLeftWriting pass.old result.now }
         ensures played { Unlocks kinds.Write (parties_of pass.old) (parties_of result.now) }
-        ensures woke { HasWoken W.Fn wake_one }
+        ensures woke { HasWokenOf W.Fn (λ word. IsItsWord self.now (X.Shown.object word) (X.Shown.index word)) wake_one }
     {
         let begun = begin_held::<UnlockCall, RwReaderPass>(pass);
         let turn = self.leave_writing(begun);

@@ -58,7 +58,8 @@ impl<A: Allocator, S> Semaphore<A, S> {
     ghost use Rattle.model_events.specs.declared.event.Answer.TheVariants as answers;
     ghost use Rattle.model_events.specs.declared.row.Intent.TheVariants as intents;
     ghost use Rattle.running_semaphore.specs.Semaphore.{semaphore_model, first_permits};
-    ghost use Rattle.running_passes.specs.Answers.{IfSuccess, IfInterrupted, IsSuccess, MayAnswerAbort, HasAsked, HasWoken};
+    ghost use Rattle.running_passes.specs.Answers.{IfSuccess, IfInterrupted, IsSuccess, MayAnswerAbort, HasAsked};
+    ghost use Rattle.running_model.specs.Asked.{WokeOnce, HasWokenOf};
     ghost use Rattle.running_passes.specs.Parts.{IsWhole};
     ghost use Rattle.running_passes.specs.Sights.{LooksOnceOrMisses};
     ghost use Rattle.running_passes.specs.Views.{first_view};
@@ -111,11 +112,9 @@ impl<A: Allocator, S> Semaphore<A, S> {
         requires may { W.IsAlwaysCallable wakeup }
         ensures given { HasDone (gave value) pass.old pass.new }
         ensures played { HasPlayedPost (initial_of self.now) value pass.old pass.new }
-        ensures woke { HasWoken W.Fn wakeup }
+        ensures woke { HasWokenOf W.Fn (λ word. IsItsWord self.now (S.As.Shown.object word) (S.As.Shown.index word)) wakeup }
     {
-        let turn = self.add::<Brand>(pass, value);
-        let (woken, _wakeup) = turn.wake(&self.stage, &self.word(), wakeup);
-        let _pass = woken.end_aside(&self.stage);
+        let _wakeup = self.post_by(pass, wakeup, value);
     }
 
     /// Takes a permit: looks, up to 10000 times more where it sees none, and then calls the wait closure before each further look.
@@ -183,7 +182,7 @@ impl<A: Allocator, S> Semaphore<A, S> {
         ensures acted { IfSuccess result (λ x. F.post act x) }
         ensures aborted { IfInterrupted result (MayAnswerAbort W.Fn wait IsEmpty) }
         ensures asked { IsWhole (part_of pass.old) → IfInterrupted result (HasAsked W.Fn wait IsEmpty 10001 pass.old pass.new) }
-        ensures woke { IfSuccess result (λ _. HasWoken K.Fn wakeup) }
+        ensures woke { IfSuccess result (λ _. HasWokenOf K.Fn (λ word. IsItsWord self.now (S.As.Shown.object word) (S.As.Shown.index word)) wakeup) }
     {
         match self.wait(rt, pass, wait) {
             WaitResult::Success(()) => {
@@ -241,6 +240,26 @@ impl<A: Allocator, S> Semaphore<A, S> {
                 (granted, asked)
             }
         }
+    }
+
+    /// What `post` does, by a closure that counts its calls. Gives it back. It serves a call that posts as a part of its own.
+    #[inline(always)]
+    pub fn post_by<'t, X: OfWord<SemaphoreWord<'t>>, W: FnMut(&X)>(
+        &'t self,
+        pass: &mut SemPass,
+        wakeup: W,
+        value: u64,
+    ) -> W
+        requires own { IsSemPass self.now pass.old }
+        requires may { W.IsAlwaysCallable wakeup }
+        ensures given { HasDone (gave value) pass.old pass.new }
+        ensures played { HasPlayedPost (initial_of self.now) value pass.old pass.new }
+        ensures woke { WokeOnce W.FnMut (λ word. IsItsWord self.now (X.Shown.object word) (X.Shown.index word)) wakeup result }
+    {
+        let turn = self.add::<Brand>(pass, value);
+        let (woken, wake) = turn.wake(&self.stage, &self.word(), wakeup);
+        let _pass = woken.end_aside(&self.stage);
+        wake
     }
 
     /// What `try_wait` does, and whether a permit was taken.

@@ -157,7 +157,7 @@ impl<T, A: Allocator> Drop for Locked<'_, '_, T, A> {
             value,
         } = self;
         let of = handle.of;
-        let back = of.value.sit(seat, value, &|_| of.sleepers.wake_one());
+        let back = of.value.sit(seat, value, |_| of.sleepers.wake_one());
         handle.pass.absorb(back, &of.value);
     }
 }

@@ -2,10 +2,11 @@
 use Rattle.std.specs.Prelude.{◌≡◌, ℕ, min}
 use Rattle.running_condvar.specs.CondShown.{HasNotified}
 use Rattle.running_passes.specs.declared.part.Part.{Part}
-use Rattle.running_passes.specs.Passes.{part_of}
+use Rattle.running_guarded.specs.GuardedShown.{part_of}
 use Rattle.job_queue.specs.QueueShown as passes
 use Rattle.job_queue.specs.declared.pass.QueuePass.{QueuePass}
-use Rattle.job_queue.specs.declared.queue.JobQueue.{JobQueue}
+use Rattle.job_queue.specs.declared.queue.QueueOf.{QueueOf}
+use Rattle.job_queue.specs.declared.state.QueueState.{QueueState}
 use Rattle.sleeping_queue.specs.declared.SleepingQueue.{SleepingQueue}
 use Rattle.sleeping_queue.specs.declared.QueueHandle.{QueueHandle}
 
@@ -26,7 +27,7 @@ pub record HasClosed (p q : QueuePass) : Type 0 where
 
 module _ {T A : Type 0} where
   -- the queue itself, whose pass is the object's
-  abbrev pub below : SleepingQueue T A → JobQueue T A
+  abbrev pub below : SleepingQueue T A → QueueOf (QueueState T A) A
   below o = o.queue
 
   -- it is that queue's, and one part
@@ -42,7 +43,7 @@ module _ {T A : Type 0} where
 
   -- which part of all passes that is
   abbrev pub part_with : QueueHandle T A → Part
-  part_with h = part_of (passes.mutex_in (pass_of h))
+  part_with h = part_of (passes.state_in (pass_of h))
 
   -- still a handle of the same queue, and its pass has changed so
   pub record PassHas (Changed : QueuePass → QueuePass → Type 0) (before after : QueueHandle T A) : Type 0 where

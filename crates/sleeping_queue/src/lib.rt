@@ -67,7 +67,7 @@ impl<T, A: Allocator> SleepingQueue<T, A> {
     }
 }
 
-impl<T, A: Allocator> QueueHandle<'_, T, A> {
+impl<T: Drop, A: Allocator> QueueHandle<'_, T, A> {
     ghost use Rattle.std.specs.Prelude.{None, IfOk, IfErr};
     ghost use Rattle.job_queue.specs.Answers.{job_of, IsEmptyAnswer, IsInterrupted};
     ghost use Rattle.job_queue.specs.QueueShown.{HasLookedTwice};

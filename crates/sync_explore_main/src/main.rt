@@ -32,9 +32,7 @@ fn main(rt: HostRuntime) -> ExitCode {
         &mut progress,
     ) {
         Ok(answered) => {
-            if let Some(line) = answered.lost {
-                let _ = eprintln!(rt; "lost at line {line}");
-            }
+            let _ = rt.stderr().write_all(&answered.aside);
             ExitCode::from(answered.verdict.status())
         }
         Err(unanswered) => {

@@ -87,18 +87,6 @@ fn put_failed(alloc: Global, failed: &Failed, error: &mut [u8], told: &mut Told)
     told.error = put_lines(alloc, &failed.fault, &failed.advice, error);
 }
 
-/// The line at which all was lost, if there is one.
-fn put_lost(alloc: Global, lost: Option<u64>, error: &mut [u8]) -> usize {
-    let Some(line) = lost else {
-        return 0;
-    };
-    let mut out = String::new(alloc);
-    match fmt::Write::write_fmt(&mut out, format_args!("lost at line {line}\n")) {
-        Ok(()) => put(error, out.as_bytes()),
-        Err(_) => 0,
-    }
-}
-
 /// 1 for all schedules, else 0.
 fn all_of(scope: Scope) -> u64
     ensures { result ≡ 1 → scope ≡ scopes.All }
@@ -206,7 +194,7 @@ pub extern "C" fn page_explore(
             told.status = u64::from(found.verdict.status());
             told.all = all_of(found.scope);
             told.out = put(out, &found.bytes);
-            told.error = put_lost(alloc, found.lost, error);
+            told.error = put(error, &found.aside);
         }
         Err(fault) => {
             let unanswered = Unanswered::of_question(alloc, text, fault);

@@ -4,8 +4,8 @@ ghost use Rattle.job_queue.specs.QueueShown.{IsQueuePass, HasStayed};
 use crate::crowd::{Means, Object};
 use crate::platform::Platform;
 use crate::tally::Tally;
-use iceoryx2_pal_concurrency_sync::{WaitAction, WaitWord, wake_nobody};
-use job_queue::{JobQueue, PutFault, QueuePass, QueueWord, Taken};
+use iceoryx2_pal_concurrency_sync::{WaitAction, WaitWord};
+use job_queue::{JobQueue, PutFault, QueuePass, QueueState, QueueWord, Taken};
 use std::alloc::{AllocError, Global};
 use std::sync::Wait;
 use std::time::Clock;
@@ -31,10 +31,10 @@ impl Object<QueuePass> for JobQueue<u64> {
         let by = Means {
             tally,
             at,
-            wait: |word: &QueueWord, seen: &u64| {
+            wait: |word: &QueueWord<'_, QueueState<u64>>, seen: &u64| {
                 at.one.wait(rt, tally, word, *seen, Tally::patience())
             },
-            wake_one: |word: &QueueWord| at.one.wake_one(word),
+            wake_one: |word: &QueueWord<'_, QueueState<u64>>| at.one.wake_one(word),
             wake_all: nobody,
         };
         if number < 2 {
@@ -57,9 +57,9 @@ impl Object<QueuePass> for JobQueue<u64> {
 fn put<
     R: Wait,
     B: Platform + Drop,
-    W: Fn(&QueueWord, &u64) -> WaitAction + Copy,
-    K: Fn(&QueueWord) + Copy,
-    V: Fn(&QueueWord) + Copy,
+    W: Fn(&QueueWord<'_, QueueState<u64>>, &u64) -> WaitAction + Copy,
+    K: Fn(&QueueWord<'_, QueueState<u64>>) + Copy,
+    V: Fn(&QueueWord<'_, QueueState<u64>>) + Copy,
 >(rt: &R, queue: &JobQueue<u64>, pass: &mut QueuePass, turn: u64, by: &Means<B, W, K, V>)
     requires own { IsQueuePass queue.now pass.old }
     requires may { K.IsAlwaysCallable by.now.wake_one }
@@ -69,23 +69,27 @@ fn put<
         by.tally.put(turn);
     }
     if by.tally.is_last_put(turn) {
-        queue.close(rt, pass, |word: &QueueWord| by.at.one.wake_all(word));
+        queue.close(
+            rt,
+            pass,
+            |word: &QueueWord<'_, QueueState<u64>>| by.at.one.wake_all(word),
+        );
     }
 }
 
-/// Nobody waits for the queue's mutex by its closures, so its unlock wakes nobody.
+/// Nobody waits for the queue's lock by its closures, so its unlock wakes nobody.
 fn take<
     R: Wait,
     B: Platform + Drop,
-    W: Fn(&QueueWord, &u64) -> WaitAction + Copy,
-    K: Fn(&QueueWord) + Copy,
-    V: Fn(&QueueWord) + Copy,
+    W: Fn(&QueueWord<'_, QueueState<u64>>, &u64) -> WaitAction + Copy,
+    K: Fn(&QueueWord<'_, QueueState<u64>>) + Copy,
+    V: Fn(&QueueWord<'_, QueueState<u64>>) + Copy,
 >(rt: &R, queue: &JobQueue<u64>, pass: &mut QueuePass, by: &Means<B, W, K, V>)
     requires own { IsQueuePass queue.now pass.old }
     requires may { W.IsAlwaysCallable by.now.wait }
     ensures stayed { HasStayed pass.old pass.new }
 {
-    match queue.take(rt, pass, by.wait, wake_nobody) {
+    match queue.take(rt, pass, by.wait, nobody) {
         Taken::Job { job, .. } => by.tally.take(job),
         Taken::Closed | Taken::Empty | Taken::Interrupted => {}
     }
@@ -95,24 +99,24 @@ fn take<
 fn empty<R: Wait>(rt: &R, queue: &JobQueue<u64>, mut pass: QueuePass) -> Option<u64>
     requires own { IsQueuePass queue.now pass }
 {
-    queue.close(rt, &mut pass, wake_nobody);
+    queue.close(rt, &mut pass, nobody);
     let mut sum = 0;
     for _ in 0..PLACES {
-        if let Taken::Job { job, .. } = queue.take(rt, &mut pass, give_up, wake_nobody) {
+        if let Taken::Job { job, .. } = queue.take(rt, &mut pass, give_up, nobody) {
             sum = job.wrapping_add(sum);
         }
     }
-    let taken = queue.take(rt, &mut pass, give_up, wake_nobody);
-    let put = queue.put(rt, &mut pass, 0, wake_nobody);
+    let taken = queue.take(rt, &mut pass, give_up, nobody);
+    let put = queue.put(rt, &mut pass, 0, nobody);
     match (taken, put) {
         (Taken::Closed, Err(PutFault::Closed(_))) => Some(sum),
         _ => None,
     }
 }
 
-fn nobody(_word: &QueueWord) {}
+fn nobody(_word: &QueueWord<'_, QueueState<u64>>) {}
 
 /// A wait closure that gives up at once.
-fn give_up(_word: &QueueWord, _seen: &u64) -> WaitAction {
+fn give_up(_word: &QueueWord<'_, QueueState<u64>>, _seen: &u64) -> WaitAction {
     WaitAction::Abort
 }

@@ -8,8 +8,8 @@ use crate::sentence::list_calls;
 use crate::several::begins_several;
 use crate::variables::{add_names, given, has_variable, object_of};
 use crate::words::{
-    Added, Spot, Told, bare, before_left, cut, first_word, front_of, has, has_mark, is_no_number,
-    parentheses, run_of, say,
+    Added, Spot, Told, bare, cut, either, first_word, front_of, has, has_mark, is_no_number,
+    parentheses, run_of, say, tell,
 };
 use model_events::event::{Call, Object};
 use std::alloc::AllocError;
@@ -60,11 +60,7 @@ fn meant_of<'a>(
     word: &'a [u8],
     nearly: bool,
 ) -> Option<Meant<'a>> {
-    let call = if nearly {
-        first_word(nearest_call(object, word))
-    } else {
-        word
-    };
+    let call = either(nearly, first_word(nearest_call(object, word)), word);
     numbers_of(object, call)?;
     Some(Meant { object, name, call })
 }
@@ -94,21 +90,23 @@ fn or<'a>(one: Option<Meant<'a>>, other: Option<Meant<'a>>) -> Option<Meant<'a>>
     }
 }
 
+/// What stands in a word's parentheses, or else the word behind it.
+fn argument_of<'a>(word: &[u8], left: &'a [u8], behind: &'a [u8]) -> &'a [u8] {
+    let inside = parentheses(left).0;
+    either(has_mark(word, b"("), inside, bare(first_word(behind)))
+}
+
 /// The call that the first of these words is to name, as other languages write it.
 pub fn call_meant<'a>(at: Spot<'a>, left: &'a [u8]) -> Option<Meant<'a>> {
     let (word, behind) = next_token(left).unwrap_or((b"", b""));
     let (first, second) = cut(word);
-    let own = if second.is_empty() { first } else { second };
+    let own = either(second.is_empty(), first, second);
     if !begins_several(at.question) {
         let whole = meant_of(at.object, b"", front_of(word, b"(,;:."), true);
         return or(whole, meant_of(at.object, b"", own, true));
     }
-    let argument = if has_mark(word, b"(") {
-        parentheses(left).0
-    } else {
-        bare(first_word(behind))
-    };
-    let name = if second.is_empty() { argument } else { first };
+    let argument = argument_of(word, left, behind);
+    let name = either(second.is_empty(), argument, first);
     match object_of(at.question, name) {
         Some(object) => or(
             meant_of(object, name, own, false),
@@ -155,15 +153,15 @@ fn unchained(rest: &[u8]) -> &[u8] {
 /// Adds a call, with the numbers that it wants, and tells what is left of a line behind it.
 fn add_call<'a>(
     out: &mut Vec<u8>,
+    at: Spot<'_>,
     meant: Meant<'_>,
     left: &'a [u8],
 ) -> Result<&'a [u8], AllocError> {
     let (word, behind) = next_token(left).unwrap_or((b"", b""));
-    let (inside, rest) = if has_mark(word, b"(") {
-        parentheses(left)
-    } else {
-        (behind, behind)
-    };
+    let opens = has_mark(word, b"(");
+    let (inside, closed) = parentheses(left);
+    let inside = either(opens, inside, behind);
+    let rest = unchained(either(opens, closed, behind));
     out.push(b' ')?;
     if !meant.name.is_empty() {
         repeat(out, meant.name)?;
@@ -171,15 +169,11 @@ fn add_call<'a>(
     }
     repeat(out, meant.call)?;
     let wanted = numbers_of(meant.object, meant.call).unwrap_or(0);
-    let rest = unchained(rest);
     let (argument, after) = next_token(rest).unwrap_or((b"", rest));
-    let rest = if is(argument, meant.name) {
-        after
-    } else {
-        rest
-    };
+    let names_object = object_of(at.question, argument).is_some();
+    let rest = either(names_object, after, rest);
     // Numbers without parentheses stand in the line behind.
-    if has_mark(word, b"(") || is_no_number(bare(first_word(rest))) {
+    if opens || is_no_number(bare(first_word(rest))) {
         add_numbers(out, inside, wanted)?;
     } else if wanted == 0 {
         return Ok(next_token(rest).unwrap_or((b"", rest)).1);
@@ -195,11 +189,9 @@ fn add_calls(out: &mut Vec<u8>, at: Spot<'_>) -> Added {
             break;
         };
         match call_meant(at, left) {
-            Some(meant) if !is_item(at, word) => left = add_call(out, meant, left)?,
+            Some(meant) if !is_item(at, word) => left = add_call(out, at, meant, left)?,
             _ => {
-                let gap: &[u8] = if is(word, b",") { b"" } else { b" " };
-                out.extend_from_slice(gap)?;
-                repeat(out, word)?;
+                say(out, either(is(word, b","), b"", b" "), word, b"")?;
                 left = behind;
             }
         }
@@ -219,6 +211,13 @@ fn is_item(at: Spot<'_>, word: &[u8]) -> bool {
         || has_variable(at.question, word)
 }
 
+/// Whether a wait of a condition variable names another object, as its mutex elsewhere.
+fn names_mutex(at: Spot<'_>, meant: Meant<'_>) -> bool {
+    let inside = argument_of(at.word, at.left, at.behind);
+    let is_other = !is(inside, meant.name) && object_of(at.question, inside).is_some();
+    matches!(meant.object, Object::Condvar) && is_other
+}
+
 /// Of a word that is to be a call, and is written as other languages write it, or, where that is asked, nearly is one. Whether it is so.
 pub fn of_calls(out: &mut Vec<u8>, at: Spot<'_>, nearly: bool) -> Told {
     let (_, second) = cut(at.word);
@@ -229,27 +228,20 @@ pub fn of_calls(out: &mut Vec<u8>, at: Spot<'_>, nearly: bool) -> Told {
     if !is_marked && !nearly {
         return Ok(false);
     }
-    let own = if has_mark(at.word, b".:>") && !second.is_empty() {
-        second
-    } else {
-        front_of(at.word, b"(,;")
-    };
-    if !is(own, meant.call) {
-        say(out, b"there is no `", own, b"`, but `")?;
-        repeat(out, meant.call)?;
-        out.extend_from_slice(b"`: ")?;
+    let dotted = has_mark(at.word, b".:>") && !second.is_empty();
+    let own = either(dotted, second, front_of(at.word, b"(,;"));
+    let words: &[u8] = if !is(own, meant.call) && names_mutex(at, meant) {
+        b"there is no `$1`, but `$2`, and a condition variable has a mutex of its own: $l"
+    } else if !is(own, meant.call) {
+        b"there is no `$1`, but `$2`: $l"
     } else if is_marked && has_mark(parentheses(at.left).0, b"|{.") {
-        out.extend_from_slice(
-            b"a call is its name alone, and what stands in its parentheses is not asked about: ",
-        )?;
+        b"a call is its name alone, and what stands in its parentheses is not asked about: $l"
     } else if is_marked {
-        out.extend_from_slice(
-            b"a call is its name alone, and behind it the numbers that it wants: ",
-        )?;
+        b"a call is its name alone, and behind it the numbers that it wants: $l"
     } else {
-        out.extend_from_slice(b"a call is begun by its object's name and its own: ")?;
-    }
-    repeat(out, before_left(at))?;
+        b"a call is begun by its object's name and its own: $l"
+    };
+    tell(out, at, words, &[own, meant.call])?;
     add_calls(out, at)?;
     Ok(true)
 }
@@ -260,32 +252,20 @@ pub fn of_objects(out: &mut Vec<u8>, at: Spot<'_>) -> Told {
         return Ok(false);
     }
     let (name, call) = cut(at.word);
-    if has_mark(name, b"[") {
-        out.extend_from_slice(
-            b"there are no arrays: each object has a name of its own, as `let m_0 mutex`",
-        )?;
-        add_names(out, at.question, b"; the names are ")?;
-    } else if let Some(object) = object_of(at.question, name) {
-        say(out, b"there is no call `", at.word, b"`: ")?;
-        out.extend_from_slice(noun(object))?;
-        list_calls(out, b" has the calls ", object)?;
-    } else if call.is_empty() {
-        say(
-            out,
-            b"no item begins with `",
-            name,
-            b"`: each is a call, which its object's name begins, as one.lock, or set, add, sub, if, while, last or ( .. )",
-        )?;
-        add_names(out, at.question, b"; the names are ")?;
-    } else {
-        say(
-            out,
-            b"there is no object `",
-            name,
-            b"`: a line before names each, as `let ",
-        )?;
-        say(out, b"", name, b" mutex`")?;
-        add_names(out, at.question, b"; the names are ")?;
+    if let Some(object) = object_of(at.question, name) {
+        let words = b"there is no call `$w`: $1 has the calls ";
+        tell(out, at, words, &[noun(object)])?;
+        list_calls(out, b"", object)?;
+        return Ok(true);
     }
+    let words: &[u8] = if has_mark(name, b"[") {
+        b"there are no arrays: each object has a name of its own, as `let m_0 mutex`"
+    } else if call.is_empty() {
+        b"no item begins with `$1`: each is a call, which its object's name begins, as one.lock, or set, add, sub, if, while, last or ( .. )"
+    } else {
+        b"there is no object `$1`: a line before names each, as `let $1 mutex`"
+    };
+    tell(out, at, words, &[name])?;
+    add_names(out, at.question, b"; the names are ")?;
     Ok(true)
 }

@@ -7,9 +7,9 @@ use crate::repeat::repeat;
 use crate::several::begins_several;
 use crate::variables::{add_names, add_variables, given, has_variable, named, object_of};
 use crate::words::{
-    Added, Spot, Told, before_left, before_word, cut, cut_word, first_word, front_of, has,
+    Added, Spot, Told, before_left, before_word, cut, cut_word, either, first_word, front_of, has,
     has_like, has_mark, insert, is_no_number, is_odd_number, mean, no_number, none_here, number_in,
-    put, run_of, say, second_spot, show, swap,
+    put, run_of, say, second_spot, show, swap, tell, tell_of,
 };
 use text_lines::lexer::{is, next_line};
 
@@ -39,145 +39,174 @@ fn is_of_term(at: Spot<'_>) -> bool {
 /// Adds the terms of the object, or of several.
 fn list_terms(out: &mut Vec<u8>, at: Spot<'_>) -> Added {
     if begins_several(at.question) {
-        out.extend_from_slice(
-            b"a term about an object names it, as 1 holds one.write, one.word 1, 1 one.success, 1 items.waits; others are ",
-        )?;
-        out.extend_from_slice(OF_ALL)?;
+        let words =
+            b"a term about an object names it, as 1 holds one.write, one.word 1, 1 one.success, 1 items.waits; others are $1";
+        tell(out, at, words, &[OF_ALL])?;
         return add_names(out, at.question, b", x 0, race x; the names are ");
     }
-    out.extend_from_slice(noun(at.object))?;
-    out.extend_from_slice(b"'s terms are ")?;
-    out.extend_from_slice(terms_of(at.object))?;
-    out.extend_from_slice(b", ")?;
-    out.extend_from_slice(OF_ALL)?;
-    out.extend_from_slice(b"; a variable's are x 0, race x")?;
+    let (noun, terms) = (noun(at.object), terms_of(at.object));
+    let words = b"$1's terms are $2, $3; a variable's are x 0, race x";
+    tell(out, at, words, &[noun, terms, OF_ALL])?;
     add_variables(out, at.question)
 }
 
-/// The words of a term, and one of them, for which this word stands elsewhere. Empty where there are none.
-fn term_elsewhere(word: &[u8]) -> (&'static [u8], &'static [u8]) {
-    if has(b"fails failed fail refused error timeout times gives", word) {
-        (b"interrupted", b"interrupted")
-    } else if has(b"read reads reading", word) {
-        (b"holds read", b"read")
-    } else if has(b"write writes writing locks locked owns has", word) {
-        (b"holds write", b"write")
-    } else if has(b"unlocks unlocked released returns returned finished", word) {
-        (b"done", b"done")
-    } else if has(b"asleep sleeping waiting blocks", word) {
-        (b"waits", b"waits")
-    } else {
-        (b"", b"")
+/// Words elsewhere, the term for which they stand, and a word of it that the terms of an object have.
+const ELSEWHERE: &[(&[u8], &[u8], &[u8])] = &[
+    (
+        b"fails failed fail refused error timeout times gives",
+        b"interrupted",
+        b"interrupted",
+    ),
+    (b"read reads reading", b"holds read", b"read"),
+    (
+        b"write writes writing locks locked owns has",
+        b"holds write",
+        b"write",
+    ),
+    (
+        b"unlocks unlocked released returns returned finished",
+        b"done",
+        b"done",
+    ),
+    (b"asleep sleeping waiting blocks", b"waits", b"waits"),
+];
+
+/// Of a word for which a term of the object stands. Whether it is one.
+fn of_elsewhere(out: &mut Vec<u8>, at: Spot<'_>, last: &[u8]) -> Told {
+    for (words, term, key) in ELSEWHERE {
+        if has(words, at.word) && has(terms_of(at.object), key) {
+            mean_term(out, at, last, term)?;
+            return Ok(true);
+        }
     }
+    Ok(false)
 }
 
 /// Adds that a word stands for this term, of party 1 where the word before names none, and how the line should be.
 fn mean_term(out: &mut Vec<u8>, at: Spot<'_>, last: &[u8], term: &[u8]) -> Added {
     let (next, rest) = cut_word(at.behind);
-    let ends = has(b"up out lock mutex", next);
-    let behind = if ends { rest } else { at.behind };
-    let party: &[u8] = if is_no_number(last) { b"1 " } else { b"" };
-    say(out, b"there is no `", at.word, b"`, but `")?;
-    repeat(out, term)?;
-    show(out, b"`", &[before_word(at), party, term, behind])
+    let behind = either(has(b"up out lock mutex", next), rest, at.behind);
+    let party = either(is_no_number(last), b"1 ", b"");
+    let words = b"there is no `$w`, but `$1`: $f$2$1$3";
+    tell(out, at, words, &[term, party, behind])
 }
 
 /// Of several parties at once.
 fn of_both(out: &mut Vec<u8>, at: Spot<'_>) -> Added {
     let near = nearest(OF_PARTIES, first_word(at.behind));
-    let term = if near.is_empty() { b"holds" } else { near };
-    show(
-        out,
-        b"a term is about one party",
-        &[before_word(at), b"1 ", term],
-    )?;
-    if near.is_empty() {
-        add_hold(out, at, b"")?;
+    if !near.is_empty() {
+        let words = b"a term is about one party: $f1 $1 and 2 $1";
+        return tell(out, at, words, &[near]);
     }
-    say(out, b" and 2 ", term, b"")?;
-    if near.is_empty() {
-        add_hold(out, at, b"")?;
-    }
-    Ok(())
+    tell(out, at, b"a term is about one party: $f1 holds", &[])?;
+    add_hold(out, at, b"")?;
+    out.extend_from_slice(b" and 2 holds")?;
+    add_hold(out, at, b"")
 }
 
-/// Of a word for which a question has another, behind this one. Whether it is one.
-fn of_stranger(out: &mut Vec<u8>, at: Spot<'_>, last: &[u8]) -> Told {
-    let (name, value) = run_of(at.word, b"=", false);
-    let (term, key) = term_elsewhere(at.word);
-    if has(b"not ~", at.word) || at.word.starts_with(b"!") && value.is_empty() {
-        out.extend_from_slice(
-            b"a condition has no `not`, and says what holds: `never` asks if it cannot",
-        )?;
-    } else if has(b"or || \\/", at.word) {
-        out.extend_from_slice(b"a condition has no `or`: ask of each in a question of its own")?;
-    } else if has(b"= ==", at.word) && has(ENDS_OF_TERMS, last) {
-        let (value, rest) = cut_word(at.behind);
-        if has_variable(at.question, last) {
-            let words = b"no party stands before a variable";
-            show(
-                out,
-                words,
-                &[first_word(at.line), b" ", last, b" ", value, rest],
-            )?;
-        } else {
-            say(out, b"behind `", last, b"` comes no number")?;
-            show(out, b"", &[before_left(at), rest])?;
+/// Words that part terms of which one holds.
+const OR: &[u8] = b"or || \\/";
+
+/// Whether some of these words is one of those.
+fn has_word(words: &[u8], list: &[u8]) -> bool {
+    let mut rest = words;
+    for _ in 0..words.len() {
+        let (word, behind) = cut_word(rest);
+        if has(list, word) {
+            return true;
         }
+        rest = behind;
+    }
+    false
+}
+
+/// Of `never` behind a party: what it never does, or that the condition begins with it.
+fn of_never(out: &mut Vec<u8>, at: Spot<'_>) -> Added {
+    let (next, rest) = cut_word(at.behind);
+    let front = before_word(at);
+    if has(b"ends end terminates stops finishes", next) {
+        show(out, b"who never ends is `stuck`", &[front, b"stuck", rest])
+    } else if has(OF_PARTIES, next) || has(b"holds sleeps", next) {
+        let (_, party) = cut_word(front);
+        show(out, b"`never` comes first", &[b"never", party, next, rest])
+    } else {
+        let words = b"what never comes is `for ever`";
+        show(out, words, &[front, b"for ever"])
+    }
+}
+
+/// What is said of a word alone.
+const ALONE: &[u8] =
+    b"party thread process is equals on the data variable % no `$w` stands here: $l$b
+& && /\\ % `and` joins terms: $fand$b
+deadlock deadlocked hang hangs blocked % the term is `stuck`: $fstuck$b
+livelock starvation starves starved fairness % no term asks whether a call will end: `stuck` asks whether it no longer can
+forever % there is no `forever`, but `for ever`: $ffor ever$b";
+
+/// Of a relation behind this word. Whether there is one.
+fn of_relation(out: &mut Vec<u8>, at: Spot<'_>, last: &[u8]) -> Told {
+    let (name, value) = run_of(at.word, b"=", false);
+    let (next, rest) = cut_word(at.behind);
+    let first = first_word(at.line);
+    let is_variable = has_variable(at.question, last);
+    if has(b"= ==", at.word) && has(ENDS_OF_TERMS, last) && is_variable {
+        let words = b"no party stands before a variable: $1 $2 $3$4";
+        tell(out, at, words, &[first, last, next, rest])?;
+    } else if has(b"= ==", at.word) && has(ENDS_OF_TERMS, last) {
+        tell(out, at, b"behind `$1` comes no number: $l$2", &[last, rest])?;
     } else if has(b"= ==", at.word) {
-        out.extend_from_slice(b"a condition has no `=`: ")?;
-        repeat(out, before_left(at))?;
+        tell(out, at, b"a condition has no `=`: $l", &[])?;
         add_terms(out, at, at.behind, last)?;
     } else if !value.is_empty() && !has_mark(at.word, b"!<>") {
         let (_, value) = run_of(value, b"=", true);
-        let words = b"a condition has no `=`";
-        show(out, words, &[before_word(at), name, b" ", value, at.behind])?;
-    } else if has_mark(at.word, b"=!<>") && has_variable(at.question, last) {
+        let words = b"a condition has no `=`: $f$1 $2$b";
+        tell(out, at, words, &[name, value])?;
+    } else if has_mark(at.word, b"=!<>") && is_variable {
         let words =
-            b"a condition has no relation: with a line `let bad 0` before, an item looks, as `if ";
-        say(out, words, last, b" ")?;
-        say(out, b"", at.word, b" ")?;
-        say(out, b"", first_word(at.behind), b" set bad 1`")?;
-        show(out, b"", &[first_word(at.line), b" bad 1"])?;
+            b"a condition has no relation: with a line `let bad 0` before, an item looks, as `if $1 $w $2 set bad 1`: $3 bad 1";
+        tell(out, at, words, &[last, next, first])?;
     } else if has_mark(at.word, b"=!<>") {
         out.extend_from_slice(
             b"a condition has no relation: an item looks, as `if x > 2 set bad 1`, and `find bad 1` asks for that",
         )?;
-    } else if has(
-        b"party thread process is equals on the data variable",
-        at.word,
-    ) || has(b"returns gets answers", at.word) && has(OF_PARTIES, first_word(at.behind))
+    } else {
+        return Ok(false);
+    }
+    Ok(true)
+}
+
+/// Of a word for which a question has another, behind this one. Whether it is one.
+fn of_stranger(out: &mut Vec<u8>, at: Spot<'_>, last: &[u8]) -> Told {
+    let (_, value) = run_of(at.word, b"=", false);
+    let holds = has(terms_of(at.object), b"holds");
+    let returns = has(b"returns gets answers", at.word);
+    if has(b"not ~", at.word) || at.word.starts_with(b"!") && value.is_empty() {
+        out.extend_from_slice(
+            b"a condition has no `not`, and says what holds: `never` asks if it cannot",
+        )?;
+    } else if has_word(at.left, OR) {
+        out.extend_from_slice(b"a condition has no `or`: ask of each in a question of its own")?;
+    } else if of_relation(out, at, last)? {} else if returns
+        && has(OF_PARTIES, first_word(at.behind))
     {
         none_here(out, at)?;
-    } else if has(b"both two", at.word) && has(terms_of(at.object), b"holds") {
+    } else if has(b"both two", at.word) && holds {
         of_both(out, at)?;
-    } else if has(b"& && /\\", at.word) {
-        put(out, b"`and` joins terms", at, b"and")?;
-    } else if has_mark(at.word, b"()") {
+    } else if is(at.word, b"never") && !is_no_number(last) {
+        of_never(out, at)?;
+    } else if tell_of(out, at, ALONE)? {} else if has_mark(at.word, b"()") {
         out.extend_from_slice(b"a condition has no parentheses: `and` joins its terms")?;
     } else if at.word.ends_with(b";") || at.word.ends_with(b".") {
         put(out, b"no mark ends a line", at, front_of(at.word, b";."))?;
     } else if has_mark(at.word, b",") {
         let word = front_of(at.word, b",");
-        let (front, rest) = (before_word(at), at.behind);
-        show(out, b"`and` joins terms", &[front, word, b" and", rest])?;
+        tell(out, at, b"`and` joins terms: $f$1 and$b", &[word])?;
     } else if has(b"holds both two", at.word) {
-        out.extend_from_slice(noun(at.object))?;
-        out.extend_from_slice(
-            b" has no holds: count who is inside, by `add in 1` and `sub in 1`, and ask of that: in 2",
-        )?;
-    } else if has(b"deadlock deadlocked hang hangs blocked", at.word) {
-        put(out, b"the term is `stuck`", at, b"stuck")?;
-    } else if has(b"livelock starvation starves starved fairness", at.word) {
-        out.extend_from_slice(
-            b"no term asks whether a call will end: `stuck` asks whether it no longer can",
-        )?;
-    } else if is(at.word, b"forever") {
-        mean(out, at, b"for ever")?;
-    } else if !term.is_empty() && has(terms_of(at.object), key) {
-        mean_term(out, at, last, term)?;
+        let words =
+            b"$1 has no holds: count who is inside, by `add in 1` and `sub in 1`, and ask of that: in 2";
+        tell(out, at, words, &[noun(at.object)])?;
     } else {
-        return Ok(false);
+        return of_elsewhere(out, at, last);
     }
     Ok(true)
 }
@@ -196,22 +225,16 @@ fn of_dotted(out: &mut Vec<u8>, at: Spot<'_>) -> Told {
     let (next, rest) = cut_word(at.behind);
     let near = nearest(terms_of(object), own);
     if own.is_empty() && has(terms_of(object), next) {
-        let words = b"an object's name stands before a dot";
-        show(
-            out,
-            words,
-            &[before_word(at), b"1 ", name, b".", next, rest],
-        )?;
+        let words = b"an object's name stands before a dot: $f1 $1.$2$3";
+        tell(out, at, words, &[name, next, rest])?;
     } else if !near.is_empty() {
         say(out, b"there is no `", own, b"`, but `")?;
-        say(out, near, b"`: ", b"")?;
-        say(out, b"", before_word(at), name)?;
-        say(out, b".", near, at.behind)?;
+        out.extend_from_slice(near)?;
+        tell(out, at, b"`: $f$1.", &[name])?;
+        say(out, near, at.behind, b"")?;
     } else {
-        say(out, b"no term has `", at.word, b"`: ")?;
-        out.extend_from_slice(noun(object))?;
-        out.extend_from_slice(b"'s terms are ")?;
-        out.extend_from_slice(terms_of(object))?;
+        let words = b"no term has `$w`: $1's terms are $2";
+        tell(out, at, words, &[noun(object), terms_of(object)])?;
     }
     Ok(true)
 }
@@ -219,11 +242,6 @@ fn of_dotted(out: &mut Vec<u8>, at: Spot<'_>) -> Told {
 /// Of a word that stands in no term.
 fn no_term(out: &mut Vec<u8>, at: Spot<'_>) -> Added {
     let (variable, _) = named(at.question, at.word, true);
-    let variable = if has_variable(at.question, variable) {
-        variable
-    } else {
-        b""
-    };
     let term = nearest(terms_of(at.object), at.word);
     let of_all = nearest(b"for ever stuck ends race", at.word);
     let number = number_in(at.word);
@@ -233,7 +251,7 @@ fn no_term(out: &mut Vec<u8>, at: Spot<'_>) -> Added {
         no_number(out, at.word)
     } else if of_dotted(out, at)? {
         Ok(())
-    } else if !variable.is_empty() {
+    } else if has_variable(at.question, variable) {
         mean(out, at, variable)
     } else if !term.is_empty() {
         mean(out, at, term)
@@ -270,7 +288,7 @@ fn of_nameless(out: &mut Vec<u8>, at: Spot<'_>, last: &[u8]) -> Told {
     if !begins_several(at.question) {
         return Ok(false);
     }
-    let (front, rest) = (before_word(at), at.behind);
+    let front = before_word(at);
     let (next, after) = cut_word(at.behind);
     let has_hold = has(b"read write", at.word);
     let is_hold = is(last, b"holds") && (has_hold || at.word.is_empty() || is(at.word, b"and"));
@@ -278,46 +296,26 @@ fn of_nameless(out: &mut Vec<u8>, at: Spot<'_>, last: &[u8]) -> Told {
     let lock = name_of_lock(at.question, true);
     let words = b"where there are several objects, a hold names its own";
     if is_hold {
-        let gap: &[u8] = if has_hold { b"" } else { b" " };
-        let kind: &[u8] = if has_hold { at.word } else { b"write" };
-        let (front, rest) = if has_hold {
-            (front, rest)
-        } else {
-            (before_left(at), at.left)
-        };
-        show(out, words, &[front, gap, lock, b".", kind, rest])?;
+        let line = either(has_hold, b"$1: $f$2.$w$b", b"$1: $l $2.write$r");
+        tell(out, at, line, &[words, lock])?;
     } else if is_object && is(last, b"holds") {
         out.extend_from_slice(b"a hold is `read` or `write`: ")?;
         repeat(out, before_left(at))?;
         add_terms(out, at, at.left, last)?;
     } else if is(own_word(at, at.word), b"holds") && has_mark(at.word, b".") {
-        let kind: &[u8] = if is(next, b"read") {
-            b".read"
-        } else {
-            b".write"
-        };
-        let rest = if has(b"read write", next) {
-            after
-        } else {
-            rest
-        };
+        let kind = either(is(next, b"read"), b".read", b".write");
+        let rest = either(has(b"read write", next), after, at.behind);
         show(out, words, &[front, b"holds ", cut(at.word).0, kind, rest])?;
     } else if object_of(at.question, next).is_some() && has(b"has owns locks", at.word) {
-        show(
-            out,
-            b"a hold is `read` or `write`",
-            &[front, b"holds ", next, b".write", after],
-        )?;
+        let words = b"a hold is `read` or `write`: $fholds $1.write$2";
+        tell(out, at, words, &[next, after])?;
     } else if is_object && !is_no_number(next) {
-        show(
-            out,
-            b"a word of the object holds a number",
-            &[front, at.word, b".word", rest],
-        )?;
+        let words = b"a word of the object holds a number: $f$w.word$b";
+        tell(out, at, words, &[])?;
     } else if is(last, b"and") && has(b"word counter waiters value", at.word) {
         let name = name_of_lock(at.question, false);
-        let words = b"where there are several objects, a word names its own";
-        show(out, words, &[front, name, b".", at.word, rest])?;
+        let words = b"where there are several objects, a word names its own: $f$1.$w$b";
+        tell(out, at, words, &[name])?;
     } else {
         return Ok(false);
     }
@@ -352,13 +350,22 @@ fn of_order(out: &mut Vec<u8>, at: Spot<'_>) -> Told {
 /// Of `for ever` behind a term of a party, which it is itself: before the word behind that term.
 fn of_ever(out: &mut Vec<u8>, term: Spot<'_>) -> Added {
     let (word, rest) = cut_word(term.behind);
-    let rest = if is(word, b"for") {
-        cut_word(rest).1
+    let rest = either(is(word, b"for"), cut_word(rest).1, rest);
+    let words = b"`for ever` is a term by itself: $ffor ever$1";
+    tell(out, term, words, &[rest])
+}
+
+/// Of the object of this name behind a term of a party, before the words behind that: its name stands before, if the term may name one.
+fn of_place(out: &mut Vec<u8>, term: Spot<'_>, last: &[u8], name: &[u8], rest: &[u8]) -> Added {
+    let front = before_word(term);
+    if has(b"sleeps stuck ever", last) || object_of(term.question, name).is_none() {
+        let ever = either(is(last, b"sleeps"), b" for ever", b"");
+        let words = b"the term names no object";
+        show(out, words, &[front, term.word, ever, rest])
     } else {
-        rest
-    };
-    let words = b"`for ever` is a term by itself";
-    show(out, words, &[before_word(term), b"for ever", rest])
+        let words = b"an object's name stands before a dot";
+        show(out, words, &[front, name, b".", term.word, rest])
+    }
 }
 
 /// What is wanted between a word and the next. Empty where that may stand there.
@@ -393,11 +400,8 @@ fn add_hold(out: &mut Vec<u8>, at: Spot<'_>, name: &[u8]) -> Added {
     if !begins_several(at.question) {
         return out.extend_from_slice(b" write");
     }
-    let lock = if object_of(at.question, name).is_some() {
-        name
-    } else {
-        name_of_lock(at.question, true)
-    };
+    let named = object_of(at.question, name).is_some();
+    let lock = either(named, name, name_of_lock(at.question, true));
     say(out, b" ", lock, b".write")
 }
 
@@ -461,6 +465,11 @@ pub fn of_condition(out: &mut Vec<u8>, line: Spot<'_>) -> Added {
         }
         if !first && !is_no_number(last) && !is_no_number(word) {
             return swap(out, b"one number stands here", at, b"");
+        }
+        let (name, rest) = cut_word(at.behind);
+        let places = has(b"at on in", word) && !has_variable(at.question, word);
+        if places && (has(OF_PARTIES, last) || has(b"sleeps ever", last)) {
+            return of_place(out, term, last, name, rest);
         }
         let missing = between(at, last);
         if !missing.is_empty() {

@@ -5,9 +5,12 @@
 #![tactic(auto)]
 
 mod calls;
+mod changes;
+mod closures;
 mod condition;
 mod failed;
 mod items;
+mod looks;
 mod near;
 mod objects;
 mod own;
@@ -15,6 +18,8 @@ pub mod question;
 mod repeat;
 mod sentence;
 mod several;
+mod strangers;
+mod test;
 pub mod trace;
 mod variables;
 mod words;

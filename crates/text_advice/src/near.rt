@@ -1,6 +1,6 @@
 //! Words that are nearly others.
 
-use crate::words::{bare, has};
+use crate::words::{has, unmarked};
 use model_events::event::{Call, Object};
 use text_lines::call::name_of;
 use text_lines::lexer::{is, next_word};
@@ -67,7 +67,7 @@ pub fn named_in<'a>(list: &'a [u8], word: &[u8], nearly: bool) -> &'a [u8] {
             break;
         };
         rest = after;
-        let name = bare(name);
+        let name = unmarked(name);
         if is(name, word) || nearly && is_near(word, name) {
             return name;
         }

@@ -1,9 +1,10 @@
 //! What would be right in a line of a lock of one's own.
 
 use crate::sentence;
-use crate::words::{first_word, has, has_comment, is_no_number, of_comment, say};
+use crate::words::{
+    Added, cut_word, first_word, has, has_comment, is_no_number, of_comment, say, unmarked,
+};
 use model_events::event::Object;
-use std::alloc::AllocError;
 use text_lines::fault::{FaultyLine, LineFault};
 use text_lines::lexer::{is, next_line, next_word};
 
@@ -19,37 +20,33 @@ pub fn begins_own(text: &[u8]) -> bool {
     }
 }
 
-/// A word without the mark at its end.
-fn unmarked(word: &[u8]) -> &[u8] {
-    match word.split_last() {
-        Some((b',' | b':' | b';', front)) => front,
-        _ => word,
-    }
-}
-
 /// The word of a line behind so many.
 fn word_behind(line: &[u8], count: usize) -> &[u8] {
     let mut rest = line;
     for _ in 0..count {
-        let (_, behind) = next_word(rest).unwrap_or((b"", b""));
-        rest = behind;
+        rest = cut_word(rest).1;
     }
     unmarked(first_word(rest))
 }
 
-/// Whether a line behind the second begins with this name.
-fn begins_a_line(question: &[u8], name: &[u8]) -> bool {
-    let mut rest = question;
-    for number in 1..question.len() {
+/// The line behind the second that begins with this name, counted from 1. 0 where there is none.
+fn opening_line(text: &[u8], name: &[u8]) -> u64 {
+    let mut rest = text;
+    for number in 1..text.len() {
         let Some((line, behind)) = next_line(rest) else {
             break;
         };
         if number > 2 && is(unmarked(first_word(line)), name) {
-            return true;
+            return number as u64;
         }
         rest = behind;
     }
-    false
+    0
+}
+
+/// Whether a line behind the second begins with this name.
+fn begins_a_line(question: &[u8], name: &[u8]) -> bool {
+    opening_line(question, name) > 0
 }
 
 /// The first row to which a line leads and that no line has. Empty where there is none.
@@ -75,30 +72,15 @@ fn unknown_word<'t>(question: &[u8], line: &'t [u8]) -> &'t [u8] {
     let (_, behind) = next_line(question).unwrap_or((b"", b""));
     let (names, _) = next_line(behind).unwrap_or((b"", b""));
     let word = word_behind(line, 2);
-    if is(word_behind(line, 1), b"wake") || tells(names, word) {
+    if is(word_behind(line, 1), b"wake") || has(names, word) {
         b""
     } else {
         word
     }
 }
 
-/// Whether a line has this word.
-fn tells(line: &[u8], word: &[u8]) -> bool {
-    let mut rest = line;
-    for _ in 0..line.len() {
-        let Some((other, behind)) = next_word(rest) else {
-            break;
-        };
-        if is(unmarked(other), word) {
-            return true;
-        }
-        rest = behind;
-    }
-    false
-}
-
 /// Of a row.
-fn of_row(out: &mut Vec<u8>, question: &[u8], line: &[u8]) -> Result<(), AllocError> {
+fn of_row(out: &mut Vec<u8>, question: &[u8], line: &[u8]) -> Added {
     let (word, row) = (unknown_word(question, line), unknown_row(question, line));
     if !word.is_empty() {
         say(out, b"the second line names no word `", word, b"`")
@@ -110,13 +92,13 @@ fn of_row(out: &mut Vec<u8>, question: &[u8], line: &[u8]) -> Result<(), AllocEr
 }
 
 /// Of a row whose word and rows are there.
-fn of_ways(out: &mut Vec<u8>, line: &[u8]) -> Result<(), AllocError> {
-    let has_test = tells(line, b"is") || tells(line, b"below") || tells(line, b"odd");
-    out.extend_from_slice(if tells(line, b"refused") && !tells(line, b"told") {
+fn of_ways(out: &mut Vec<u8>, line: &[u8]) -> Added {
+    let has_test = has(line, b"is") || has(line, b"below") || has(line, b"odd");
+    out.extend_from_slice(if has(line, b"refused") && !has(line, b"told") {
         b"a refusal says what its wait closure is told, a number or `found`: refused look, told found"
-    } else if has_test && !tells(line, b"else") {
+    } else if has_test && !has(line, b"else") {
         b"a test has two ways: is 0: at take; else at look"
-    } else if tells(line, b"else") && !has_test {
+    } else if has(line, b"else") && !has_test {
         b"before `else` stand a test and its way: is 0: at take; else at look"
     } else {
         b"a row is `<name>: <step>; <way>`, or `<name>: <step>; <test>: <way>; else <way>`, and its name is new: take: exchange state 0 1; is 0: success, hold write; else at look"
@@ -124,13 +106,13 @@ fn of_ways(out: &mut Vec<u8>, line: &[u8]) -> Result<(), AllocError> {
 }
 
 /// Of a line behind the words.
-fn of_line(out: &mut Vec<u8>, question: &[u8], line: &[u8]) -> Result<(), AllocError> {
+fn of_line(out: &mut Vec<u8>, question: &[u8], line: &[u8]) -> Added {
     let (first, second) = (word_behind(line, 0), word_behind(line, 1));
     if has_comment(line) {
         of_comment(out, line)
     } else if first.is_empty() {
         out.extend_from_slice(b"the last line asks: never two holders")
-    } else if is(first, b"never") {
+    } else if has(b"find never", first) {
         out.extend_from_slice(b"one question is asked, in the last line: never two holders")
     } else if has(CALLS, first) && !second.is_empty() && !begins_a_line(question, second) {
         say(out, b"there is no row `", second, b"`")
@@ -144,22 +126,13 @@ fn of_line(out: &mut Vec<u8>, question: &[u8], line: &[u8]) -> Result<(), AllocE
         out.extend_from_slice(b"behind a name stands the first row of a call, or the step of a row")
     } else {
         say(out, b"there is no step `", second, b"`, but ")?;
-        say(
-            out,
-            STEPS,
-            b"",
-            b"; and the calls are lock, try_lock, unlock",
-        )
+        out.extend_from_slice(STEPS)?;
+        out.extend_from_slice(b"; and the calls are lock, try_lock, unlock")
     }
 }
 
 /// Adds what would be right in the place of a line with this fault.
-pub fn advise(
-    out: &mut Vec<u8>,
-    question: &[u8],
-    line: &[u8],
-    found: FaultyLine,
-) -> Result<(), AllocError> {
+pub fn advise(out: &mut Vec<u8>, question: &[u8], line: &[u8], found: FaultyLine) -> Added {
     match (found.fault, found.line) {
         (LineFault::BadNumber, 2) => out.extend_from_slice(
             b"a number has digits alone, and is at most 18446744073709551615",
@@ -176,12 +149,7 @@ pub fn advise(
 }
 
 /// Of a line that plays the lock of a text.
-fn of_played(
-    out: &mut Vec<u8>,
-    text: &[u8],
-    line: &[u8],
-    found: FaultyLine,
-) -> Result<(), AllocError> {
+fn of_played(out: &mut Vec<u8>, text: &[u8], line: &[u8], found: FaultyLine) -> Added {
     let call = word_behind(line, 1);
     match found.fault {
         LineFault::BadLine if has(CALLS, call) && !begins_a_line(text, call) => {
@@ -194,28 +162,8 @@ fn of_played(
     }
 }
 
-/// The line behind a table that begins with this name, counted from 1. 0 where there is none.
-fn opening_line(text: &[u8], name: &[u8]) -> u64 {
-    let mut rest = text;
-    for number in 1..text.len() {
-        let Some((line, behind)) = next_line(rest) else {
-            break;
-        };
-        if number > 2 && is(unmarked(first_word(line)), name) {
-            return number as u64;
-        }
-        rest = behind;
-    }
-    0
-}
-
 /// Adds what would be right in the place of a line with this fault, of a text that plays its lock.
-pub fn advise_played(
-    out: &mut Vec<u8>,
-    text: &[u8],
-    line: &[u8],
-    found: FaultyLine,
-) -> Result<(), AllocError> {
+pub fn advise_played(out: &mut Vec<u8>, text: &[u8], line: &[u8], found: FaultyLine) -> Added {
     let (object, _) = next_line(text).unwrap_or((b"", b""));
     let name = word_behind(object, 1);
     let opening = opening_line(text, name);

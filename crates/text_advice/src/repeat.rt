@@ -79,20 +79,81 @@ pub fn lacks_blanks(word: &[u8]) -> bool {
     false
 }
 
-/// The same, with the blanks that are missing, and with a question's marks, of which none ends a line.
-pub fn repeat_apart(out: &mut Vec<u8>, words: &[u8]) -> Result<(), AllocError> {
-    let words = words.strip_suffix(b";").unwrap_or(words);
+/// The first byte of words behind blanks, as a question's mark. A comma where there is none.
+fn next_mark(words: &[u8]) -> u8 {
+    for byte in words {
+        if !b" \t".contains(byte) {
+            return mark_for(*byte);
+        }
+    }
+    b','
+}
+
+/// Whether words have braces with nothing between.
+fn has_empty_braces(words: &[u8]) -> bool {
     let mut last = b' ';
-    for byte in words.iter().take(MOST) {
-        let byte = mark_for(*byte);
-        if lacks_blank(last, byte) {
-            out.push(b' ')?;
+    for byte in words {
+        if last == b'{' && *byte == b'}' {
+            return true;
         }
-        // `=` is written once.
-        if byte != b'=' || last != b'=' {
-            add_byte(out, byte)?;
+        if !b" \t".contains(byte) {
+            last = *byte;
         }
-        last = byte;
+    }
+    false
+}
+
+/// Adds a sentence, and a line of these parts as a question has them.
+pub fn show_apart(out: &mut Vec<u8>, sentence: &[u8], parts: &[&[u8]]) -> Result<(), AllocError> {
+    out.extend_from_slice(sentence)?;
+    if parts.iter().any(|part| has_empty_braces(part)) {
+        out.extend_from_slice(b"; with a line `let idle 0` before, `set idle 0` does nothing")?;
+    }
+    out.extend_from_slice(b": ")?;
+    for part in parts {
+        repeat_apart(out, part)?;
+    }
+    Ok(())
+}
+
+/// Adds a byte of words, behind this one, with the blank that is missing; `=` is written once.
+fn add_apart(out: &mut Vec<u8>, last: u8, byte: u8) -> Result<(), AllocError> {
+    if lacks_blank(last, byte) {
+        out.push(b' ')?;
+    }
+    if byte == b'=' && last == b'=' {
+        return Ok(());
+    }
+    add_byte(out, byte)
+}
+
+/// Adds words of a text as a question has them, with its marks and blanks. No comma closes, but one stands behind braces, which do nothing where
+/// they are empty. A call has no parentheses.
+fn repeat_apart(out: &mut Vec<u8>, words: &[u8]) -> Result<(), AllocError> {
+    let mut last = b' ';
+    let mut is_empty = false;
+    for place in 0..words.len().min(MOST) {
+        let byte = mark_for(words[place]);
+        let next = next_mark(&words[place + 1..]);
+        let ends = b",)".contains(&next);
+        if is_empty {
+            is_empty = byte != b')';
+        } else if byte == b'(' && next == b')' {
+            if words[place] == b'{' || !last.is_ascii_alphanumeric() {
+                let gap: &[u8] = if lacks_blank(last, byte) { b" " } else { b"" };
+                out.extend_from_slice(gap)?;
+                out.extend_from_slice(b"set idle 0")?;
+            }
+            is_empty = true;
+            last = b')';
+        } else if byte != b',' || !ends {
+            add_apart(out, last, byte)?;
+            last = byte;
+        }
+        if words[place] == b'}' && !ends {
+            out.push(b',')?;
+            last = b',';
+        }
     }
     out.extend_from_slice(dots(words))
 }

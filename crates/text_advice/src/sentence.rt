@@ -5,9 +5,8 @@ use crate::objects::{
     answers, first_value, first_words, noun, numbers_after, texts_objects, verbs_of,
 };
 use crate::words::{
-    Added, Spot, Told, before_left, before_word, cut, cut_word, first_spot, first_word, front_of,
-    has, has_comment, has_mark, is_no_number, mean, number_in, of_comment, parentheses, put, say,
-    second_spot, show,
+    Added, Spot, Told, cut, cut_word, either, first_spot, first_word, front_of, has, has_comment,
+    has_mark, is_no_number, mean, number_in, of_comment, parentheses, put, second_spot, show, tell,
 };
 use model_events::event::{Call, Object};
 use text_lines::call::{name_of, named};
@@ -17,21 +16,15 @@ use text_lines::lexer::is;
 use text_lines::objects::calls_of;
 use text_lines::several::is_several;
 
-/// Adds the names of calls, with commas between.
-fn add_names(out: &mut Vec<u8>, calls: &[Call<()>]) -> Added {
-    let mut between: &[u8] = b"";
-    for call in calls {
-        out.extend_from_slice(between)?;
+/// Adds words, and then the names of all calls of the object, with commas between.
+pub fn list_calls(out: &mut Vec<u8>, words: &[u8], object: Object<()>) -> Added {
+    let mut lead = words;
+    for call in calls_of(&object) {
+        out.extend_from_slice(lead)?;
         out.extend_from_slice(name_of(call).as_bytes())?;
-        between = b", ";
+        lead = b", ";
     }
     Ok(())
-}
-
-/// Adds words, and then the names of all calls of the object.
-pub fn list_calls(out: &mut Vec<u8>, words: &[u8], object: Object<()>) -> Added {
-    out.extend_from_slice(words)?;
-    add_names(out, calls_of(&object))
 }
 
 /// Adds words, and then all that a line may ask of the object: its calls, and the verbs of a call under way.
@@ -43,8 +36,7 @@ pub fn list_asked(out: &mut Vec<u8>, words: &[u8], object: Object<()>) -> Added 
 
 /// Adds that the object has no such call.
 pub fn no_call(out: &mut Vec<u8>, at: Spot<'_>) -> Added {
-    out.extend_from_slice(noun(at.object))?;
-    say(out, b" has no call `", at.word, b"`")
+    tell(out, at, b"$1 has no call `$w`", &[noun(at.object)])
 }
 
 /// Of a call with parentheses behind its name, or an object's name before it, as other languages write it; what comes behind is kept, or not.
@@ -58,17 +50,14 @@ pub fn of_method(out: &mut Vec<u8>, at: Spot<'_>, keeps: bool) -> Told {
     if call.is_empty() || !has_mark(at.word, b":>(") && second.is_empty() {
         return Ok(false);
     }
-    let (inside, rest): (&[u8], &[u8]) = if has_mark(at.word, b"(") {
-        parentheses(at.left)
-    } else {
-        (b"", at.behind)
-    };
-    let rest = if keeps { rest } else { b"" };
+    let opens = has_mark(at.word, b"(");
+    let (inside, behind) = parentheses(at.left);
+    let inside = either(opens, inside, b"");
+    let rest = either(keeps, either(opens, behind, at.behind), b"");
     let takes = !is_no_number(front_of(inside, b","));
-    let (gap, inside): (&[u8], &[u8]) = if takes { (b" ", inside) } else { (b"", b"") };
-    let words = b"a call is its name alone, and behind it the numbers that it wants";
-    let front = before_left(at);
-    show(out, words, &[front, b" ", call, gap, inside, rest])?;
+    let words = b"a call is its name alone, and behind it the numbers that it wants: $l $1$2$3$4";
+    let (gap, inside) = (either(takes, b" ", b""), either(takes, inside, b""));
+    tell(out, at, words, &[call, gap, inside, rest])?;
     Ok(true)
 }
 
@@ -111,8 +100,8 @@ fn of_verb(out: &mut Vec<u8>, at: Spot<'_>) -> Added {
     if of_method(out, at, false)? {
         Ok(())
     } else if has_mark(at.word, b",;") || is_known(at.object, at.word) && joins {
-        let words = b"a line asks one thing, and a line of its own the next";
-        show(out, words, &[before_word(at), front_of(at.word, b",;")])
+        let words = b"a line asks one thing, and a line of its own the next: $f$1";
+        tell(out, at, words, &[front_of(at.word, b",;")])
     } else if is(at.word, b"run") && !is_no_number(second) {
         put(out, b"`run` has no number, but `go` has", at, b"go")
     } else if is_known(at.object, at.word) {
@@ -160,10 +149,10 @@ pub fn of_first_line(out: &mut Vec<u8>, object: Object<()>, line: &[u8]) -> Adde
     if has_comment(line) {
         return of_comment(out, line);
     }
-    out.extend_from_slice(noun(object))?;
-    out.extend_from_slice(b"'s first line has 1 to 64 parties, and ")?;
-    out.extend_from_slice(first_value(object, name))?;
-    say(out, b": ", name, first_words(object))
+    let (noun, value) = (noun(object), first_value(object, name));
+    let words = b"$1's first line has 1 to 64 parties, and $2: $w$3";
+    let at = first_spot(object, b"", line);
+    tell(out, at, words, &[noun, value, first_words(object)])
 }
 
 /// Of a line that a party cannot do, of whichever object.
@@ -235,12 +224,8 @@ pub fn no_object(out: &mut Vec<u8>, line: &[u8], what: &[u8], objects: &[u8]) ->
     if line.starts_with(b"\xef\xbb\xbf") {
         out.extend_from_slice(b"the first line has a byte-order mark")
     } else if has_comment(line) {
-        say(
-            out,
-            what,
-            b" has no comments, and begins with its object",
-            b"",
-        )
+        let words = b"$1 has no comments, and begins with its object";
+        tell(out, at, words, &[what])
     } else if is_several(line) || is(at.word, b"let") && asks {
         out.extend_from_slice(ONE_OBJECT)
     } else if is(at.word, b"let") {
@@ -248,10 +233,9 @@ pub fn no_object(out: &mut Vec<u8>, line: &[u8], what: &[u8], objects: &[u8]) ->
     } else if !near.is_empty() {
         mean(out, at, near)
     } else {
-        say(out, what, b" begins with its object: ", objects)?;
-        out.extend_from_slice(
-            b"; of several objects with `parties 2`, of a lock of your own with `object futex`",
-        )
+        let words =
+            b"$1 begins with its object: $2; of several objects with `parties 2`, of a lock of your own with `object futex`";
+        tell(out, at, words, &[what, objects])
     }
 }
 

@@ -9,8 +9,8 @@ use crate::sentence::{
 };
 use crate::variables::{add_names, named, object_of};
 use crate::words::{
-    Added, Spot, before, before_word, cut, cut_word, first_spot, first_word, front_of, has,
-    has_comment, has_mark, is_no_number, of_comment, run_of, say, second_spot, show,
+    Added, Spot, before, cut, cut_word, either, first_spot, first_word, front_of, has, has_comment,
+    has_mark, is_no_number, of_comment, run_of, say, second_spot, show, tell,
 };
 use model_events::event::Object;
 use text_lines::command::is_known;
@@ -82,15 +82,17 @@ fn said_of_let(out: &mut Vec<u8>, text: &[u8], name: &[u8], kind: &[u8], left: &
 fn of_let(out: &mut Vec<u8>, text: &[u8], line: &[u8]) -> Added {
     let (first, behind) = cut_word(cut_word(line).1);
     let is_turned = has(questions_objects(), first);
-    let (name, rest) = if is_turned || is(first, b"mut") {
-        cut_word(behind)
+    let (second, more) = cut_word(behind);
+    let passes = is_turned || is(first, b"mut");
+    let (name, rest) = if passes {
+        (second, more)
     } else {
         (first, behind)
     };
-    let (kind, left) = kind_in(if is_turned { cut_word(line).1 } else { rest });
+    let (kind, left) = kind_in(either(is_turned, cut_word(line).1, rest));
     said_of_let(out, text, name, kind, left)?;
     let clean = front_of(name, b",:[=");
-    let kind: &[u8] = if kind.is_empty() { b"mutex" } else { kind };
+    let kind = either(kind.is_empty(), b"mutex", kind);
     let front: &[u8] = if clean.is_empty() {
         b"m"
     } else if !may_name(&[], clean) {
@@ -100,23 +102,40 @@ fn of_let(out: &mut Vec<u8>, text: &[u8], line: &[u8]) -> Added {
     } else {
         b"other_"
     };
-    let array: &[u8] = if has_mark(name, b"[") || has_mark(first_word(left), b"[") {
-        b"_0"
-    } else {
-        b""
-    };
+    let is_array = has_mark(name, b"[") || has_mark(first_word(left), b"[");
+    let array = either(is_array, b"_0", b"");
     let (_, value) = run_of(left, b" \t(<:;,[{", false);
     let (number, _) = run_of(run_of(value, b"0123456789", false).1, b"0123456789", true);
     let has_value = object_named(kind).is_some_and(|object| first_words(object).len() > 2);
-    let value: &[u8] = match (has_value, number.is_empty() || !array.is_empty()) {
-        (false, _) => b"",
-        (true, true) => b"2",
-        (true, false) => number,
-    };
-    let gap: &[u8] = if has_value { b" " } else { b"" };
-    show(out, b"", &[b"let ", front, front_of(clean, b"."), array])?;
-    say(out, b" ", kind, gap)?;
+    let value = either(number.is_empty() || is_array, b"2", number);
+    let value = either(has_value, value, b"");
+    let (_, more) = run_of(cut_word(line).1, b",", false);
+    let mark = either(more.is_empty(), b"", b"`");
+    say(out, b": ", mark, b"let ")?;
+    say(out, front, front_of(clean, b"."), array)?;
+    add_kind(out, kind, value)?;
+    add_others(out, more, kind, value)?;
+    out.extend_from_slice(mark)
+}
+
+/// Adds an object and its value, where it has one.
+fn add_kind(out: &mut Vec<u8>, kind: &[u8], value: &[u8]) -> Added {
+    say(out, b" ", kind, either(value.is_empty(), b"", b" "))?;
     say(out, b"", value, b"")
+}
+
+/// Adds, of each further name that a line gives to an object of this kind, that a line gives it.
+fn add_others(out: &mut Vec<u8>, names: &[u8], kind: &[u8], value: &[u8]) -> Added {
+    let mut rest = names;
+    for _ in 0..names.len() {
+        let (name, more) = run_of(run_of(rest, b", \t", true).1, b", \t", false);
+        if may_name(&[], name) && object_like(name).is_empty() {
+            say(out, b"` and `let ", name, b"")?;
+            add_kind(out, kind, value)?;
+        }
+        rest = more;
+    }
+    Ok(())
 }
 
 /// Of a word that is to be `<name>.<call>`.
@@ -133,15 +152,15 @@ fn of_call(out: &mut Vec<u8>, text: &[u8], at: Spot<'_>) -> Added {
     let marks = before(at.word, name.len().saturating_add(call.len()));
     let goes_on = !second.is_empty() && is_no_number(second);
     if is(call, b"wait") && !near.is_empty() {
-        let words = b"to begin the call, write ";
-        say(out, words, name, b".start_wait; its closure is answered")?;
-        show(out, b" without a name", &[before_word(at), call])
+        let words =
+            b"to begin the call, write $1.start_wait; its closure is answered without a name: $f$2";
+        tell(out, at, words, &[name, call])
     } else if has(verbs_of(object), call) {
-        let words = b"what moves a call on has no name before it";
-        show(out, words, &[before_word(at), call, at.behind])
+        let words = b"what moves a call on has no name before it: $f$1$b";
+        tell(out, at, words, &[call])
     } else if is_known(object, call) && (marks.len() > 1 || goes_on) {
-        let words = b"a line begins one call, by its object's name and its own";
-        show(out, words, &[before_word(at), name, b".", call])
+        let words = b"a line begins one call, by its object's name and its own: $f$1.$2";
+        tell(out, at, words, &[name, call])
     } else if is_known(object, call) {
         out.extend_from_slice(numbers_after(object))
     } else if near.is_empty() {
@@ -197,6 +216,11 @@ fn object_in(question: &[u8], line: &[u8]) -> Object<()> {
 
 /// Adds what would be right in the place of a line with this fault, of a question about several objects.
 pub fn advise_asked(out: &mut Vec<u8>, question: &[u8], line: &[u8], found: FaultyLine) -> Added {
+    if found.line == 1 && found.fault == LineFault::NoObject {
+        return out.extend_from_slice(
+            b"a question is about an object at least: behind the first line one is missing, as `let m mutex`",
+        );
+    }
     let (first, rest) = cut_word(line);
     let (_, value) = cut_word(rest);
     let names_object = is(first, b"let")

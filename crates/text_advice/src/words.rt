@@ -6,7 +6,7 @@ use crate::near::named_in;
 use crate::repeat::repeat;
 use model_events::event::Object;
 use std::alloc::AllocError;
-use text_lines::lexer::{is, next_word, number_within};
+use text_lines::lexer::{is, next_line, next_word, number_within};
 
 /// What comes of adding words; and whether there were some.
 pub type Added = Result<(), AllocError>;
@@ -138,22 +138,72 @@ pub fn mean(out: &mut Vec<u8>, at: Spot<'_>, near: &[u8]) -> Added {
     put(out, b"`", at, near)
 }
 
-/// Words, and what is said where one of them stands.
-pub type Row = (&'static [u8], &'static [u8]);
+/// One of two.
+pub fn either<'a>(so: bool, one: &'a [u8], other: &'a [u8]) -> &'a [u8] {
+    if so { one } else { other }
+}
 
-/// What is said of this word. Empty where no row has it.
-pub fn said_of(rows: &[Row], word: &[u8]) -> &'static [u8] {
-    for row in rows {
-        if has(row.0, word) {
-            return row.1;
+/// What a mark of a sentence stands for: of the line what stands before the word (`f`), and before its blanks (`l`), the word (`w`), what is
+/// left behind it (`b`), and with it (`r`); or the part of this number.
+fn part_of<'a>(at: Spot<'a>, mark: u8, parts: &[&'a [u8]]) -> &'a [u8] {
+    match mark {
+        b'f' => before_word(at),
+        b'l' => before_left(at),
+        b'w' => at.word,
+        b'b' => at.behind,
+        b'r' => at.left,
+        _ => match parts.get(usize::from(mark.saturating_sub(b'1'))) {
+            Some(part) => part,
+            None => b"",
+        },
+    }
+}
+
+/// Adds a sentence, in which `$` and a mark stand for a part.
+pub fn tell<'a>(out: &mut Vec<u8>, at: Spot<'a>, sentence: &[u8], parts: &[&'a [u8]]) -> Added {
+    let mut marks = false;
+    for byte in sentence {
+        if marks {
+            repeat(out, part_of(at, *byte, parts))?;
+        } else if *byte != b'$' {
+            out.push(*byte)?;
+        }
+        marks = !marks && *byte == b'$';
+    }
+    Ok(())
+}
+
+/// Adds the sentence that these rows have of the word. Each has a line: words, ` % `, and a sentence. Whether there is one.
+pub fn tell_of(out: &mut Vec<u8>, at: Spot<'_>, rows: &[u8]) -> Told {
+    let mut rest = rows;
+    for _ in 0..rows.len() {
+        let Some((row, more)) = next_line(rest) else {
+            break;
+        };
+        rest = more;
+        let (words, sentence) = run_of(row, b"%", false);
+        if has(words, at.word) {
+            tell(out, at, run_of(sentence, b"% ", true).1, &[])?;
+            return Ok(true);
         }
     }
-    b""
+    Ok(false)
 }
 
 /// A word without the comma at its end.
 pub fn bare(word: &[u8]) -> &[u8] {
-    word.strip_suffix(b",").unwrap_or(word)
+    match word.strip_suffix(b",") {
+        Some(front) if !front.is_empty() => front,
+        _ => word,
+    }
+}
+
+/// A word without the mark at its end.
+pub fn unmarked(word: &[u8]) -> &[u8] {
+    match word.split_last() {
+        Some((b',' | b':' | b';', front)) if !front.is_empty() => front,
+        _ => word,
+    }
 }
 
 /// The first word of a line, and what is left behind it. Empty where it has none.

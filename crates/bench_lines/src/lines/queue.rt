@@ -3,7 +3,7 @@ ghost use Rattle.job_queue.specs.QueueShown.{IsQueuePass};
 
 use crate::lines::{Operation, successes};
 use crossbeam_channel::{Receiver, Sender, bounded};
-use iceoryx2_pal_concurrency_sync::{WaitAction, wake_nobody};
+use iceoryx2_pal_concurrency_sync::WaitAction;
 use job_queue::{JobQueue, QueuePass, Taken};
 use std::alloc::{AllocError, Global};
 use std::sync::Wait;
@@ -25,13 +25,10 @@ struct PutTake<'r, R: Wait> {
 impl<'r, R: Wait> Operation for PutTake<'r, R> {
     #[inline(always)]
     fn once(&mut self) -> bool {
-        let put = self.queue.put(self.rt, &mut self.pass, 7, wake_nobody);
-        let taken = self.queue.take(
-            self.rt,
-            &mut self.pass,
-            |_, _| WaitAction::Abort,
-            wake_nobody,
-        );
+        let put = self.queue.put(self.rt, &mut self.pass, 7, |_| ());
+        let taken = self
+            .queue
+            .take(self.rt, &mut self.pass, |_, _| WaitAction::Abort, |_| ());
         put.is_ok() && matches!(taken, Taken::Job { ticket: _, job: 7 })
     }
 }

@@ -22,7 +22,7 @@ pub returns-then-fills-clause-filled : goal.returns-then-fills-clause-filled
 returns-then-fills-clause-filled g c = λ _. subst (λ q. HasFilled (waiters_of c.args.self.now) c.args.pass.now q) (sym (c.pass-then-fills-1.given.1 (sym c.first_look-seen.ensures.same_borrow ∙ sym c.arrive-from.ensures.same_borrow ∙ sym c.wake-woken.ensures.same_borrow ∙ sym c.end_aside-pass.ensures.same_borrow) ∙ c.end_aside-pass.ensures.still ∙ c.wake-woken.ensures.still)) (fills _ _ _ _ (search rules) (c.arrive-from.ensures.joined _ (looked _ _ _ _ c.first_look-seen.ensures.went)))
 
 pub returns-then-fills-clause-woke : goal.returns-then-fills-clause-woke
-returns-then-fills-clause-woke g c = λ _. record { word = _; says = says_of _ g.K.Fn _ _ _ _ (λ a e. (g.met.K.FnMut.1.post_iff _ _ _).1 (_, e)) c.wake-woken.ensures.woke }
+returns-then-fills-clause-woke g c = λ _. record { word = _; of = c.word-word.ensures.its; says = says_of _ g.K.Fn _ _ _ _ (λ a e. (g.met.K.FnMut.1.post_iff _ _ _).1 (_, e)) c.wake-woken.ensures.woke }
 
 pub stay-left-requires-clause-comes : goal.stay-left-requires-clause-comes
 stay-left-requires-clause-comes g c = (all_of (parties_of c.args.pass.now), stays _ _ _ _ _ c.epoch_of.ensures (search rules) (c.arrive-from.ensures.joined _ (looked _ _ _ _ c.first_look-seen.ensures.went)))

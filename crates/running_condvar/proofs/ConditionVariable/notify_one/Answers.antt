@@ -1,9 +1,5 @@
-use Rattle.running_condvar.proofs.Names.{min, refl, ◌∙◌, ap}
-use Rattle.running_condvar.proofs.CondCalls.{notifies, gives_none}
+use Rattle.running_model.proofs.Questions.{says_of}
 use Rattle.running_condvar.proofs.ConditionVariable.notify_one.Goals as goal
 
-pub returns-clause-posted : goal.returns-clause-posted
-returns-clause-posted g c = notifies _ _ _ _ c.args.pass.now _ c.args.self.now.no_permit (c.permits_for.ensures.one refl) c.waiting-waiting.ensures.saw c.waiting-waiting.ensures.played c.post.ensures.given c.post.ensures.played
-
-pub returns-clause-exact : goal.returns-clause-exact
-returns-clause-exact g c = gives_none _ _ c.args.pass.now _ c.waiting-waiting.ensures.saw c.post.ensures.given c.waiting-waiting.ensures.none c.args.pass.now.outside (λ none. c.permits_for.ensures.one refl ∙ ap (min 1) none)
+pub returns-clause-woke : goal.returns-clause-woke
+returns-clause-woke g c = let w = c.notify_by-wake.ensures.woke in record { word = w.word; of = w.of; says = says_of _ g.W.Fn _ _ _ _ (λ a e. (g.met.W.FnMut.1.post_iff _ _ _).1 (_, e)) w.called }

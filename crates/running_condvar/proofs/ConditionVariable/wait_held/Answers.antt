@@ -31,7 +31,7 @@ returns-then-not-locked g c =
         exact = λ whole. true≢false (sym (c.enter-locked.ensures.exact (alone_again (pass_of c.args.hold) c.unlock_and_sleep-signalled.new.mtx_pass slept.unlocked whole)) ∙ c.if-not-locked.true);
         some = λ whole some. took_some _ _ _ _ came (slept.slept.worth whole) some;
         none = λ whole none. took_none _ _ _ _ came (slept.slept.worth whole) none;
-        woke = record { word = _; says = says_of _ g.K.Fn _ _ _ _ (λ a e. (g.met.K.FnMut.1.post_iff _ _ _).1 (_, e)) slept.woke.called };
+        woke = record { word = _; of = slept.woke.of; says = says_of _ g.K.Fn _ _ _ _ (λ a e. (g.met.K.FnMut.1.post_iff _ _ _).1 (_, e)) slept.woke.called };
       },
     )
 
@@ -53,7 +53,7 @@ returns-then-signalled g c =
         exact = λ _. tt;
         some = λ whole some. took_some _ _ _ _ came (slept.slept.worth whole) some;
         none = λ whole none. took_none _ _ _ _ came (slept.slept.worth whole) none;
-        woke = record { word = _; says = says_of _ g.K.Fn _ _ _ _ (λ a e. (g.met.K.FnMut.1.post_iff _ _ _).1 (_, e)) slept.woke.called };
+        woke = record { word = _; of = slept.woke.of; says = says_of _ g.K.Fn _ _ _ _ (λ a e. (g.met.K.FnMut.1.post_iff _ _ _).1 (_, e)) slept.woke.called };
       },
     )
 
@@ -75,6 +75,6 @@ returns-else-signalled g c =
         exact = λ _. tt;
         some = λ whole some. took_some _ _ _ _ came (slept.slept.worth whole) some;
         none = λ whole none. took_none _ _ _ _ came (slept.slept.worth whole) none;
-        woke = record { word = _; says = says_of _ g.K.Fn _ _ _ _ (λ a e. (g.met.K.FnMut.1.post_iff _ _ _).1 (_, e)) slept.woke.called };
+        woke = record { word = _; of = slept.woke.of; says = says_of _ g.K.Fn _ _ _ _ (λ a e. (g.met.K.FnMut.1.post_iff _ _ _).1 (_, e)) slept.woke.called };
       },
     )

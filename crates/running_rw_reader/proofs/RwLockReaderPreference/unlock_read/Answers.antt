@@ -10,4 +10,4 @@ pub end_aside-requires-clause-over : goal.end_aside-requires-clause-over
 end_aside-requires-clause-over g c = unlock_is_over HoldKind.Read _ _ c.requires.has (subst (λ q. Unlocks HoldKind.Read (parties_of c.args.pass.now) (parties_of q)) (sym c.wake-woken.ensures.still) (subst (λ p. Unlocks HoldKind.Read (parties_of p) (parties_of c.leave_reading-turn.result.pass.now)) c.begin_held-begun.ensures.still c.leave_reading-turn.ensures.played))
 
 pub returns-clause-woke : goal.returns-clause-woke
-returns-clause-woke g c = record { word = _; says = says_of _ g.W.Fn _ _ _ _ (λ a e. (g.met.W.FnMut.1.post_iff _ _ _).1 (_, e)) c.wake-woken.ensures.woke }
+returns-clause-woke g c = record { word = _; of = (c.word.ensures.object, c.word.ensures.index); says = says_of _ g.W.Fn _ _ _ _ (λ a e. (g.met.W.FnMut.1.post_iff _ _ _).1 (_, e)) c.wake-woken.ensures.woke }

@@ -56,6 +56,7 @@ fn locking(
             closures: Vec::new(alloc),
             goal,
             terms: terms.to_vec(alloc)?,
+            roles: Vec::new(alloc),
         },
         names: Vec::new(alloc),
         firsts: Vec::new(alloc),

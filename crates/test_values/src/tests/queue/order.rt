@@ -2,7 +2,7 @@
 //! first wake; and the other way round.
 use super::party::{Party, first_wrong};
 use super::step::Step;
-use job_queue::{JobQueue, PutFault, QueueWord, Taken};
+use job_queue::{JobQueue, PutFault, QueueState, QueueWord, Taken};
 use model_events::WaitAction;
 use std::alloc::{AllocError, Global};
 use std::sync::Wait;
@@ -67,7 +67,7 @@ fn change_beside<R: Wait>(
     let taken_in_time = AtomicBool::new(in_wake);
     let came = meeting.meet();
     let queue = party.queue;
-    let wake = |_: &QueueWord| {
+    let wake = |_: &QueueWord<'_, QueueState<u64>>| {
         if wakes.fetch_add(1, Ordering::SeqCst) == 0 && meet_twice(meeting, !in_wake) {
             taken_in_time.store(true, Ordering::SeqCst);
         }

@@ -2,7 +2,7 @@
 ghost use Rattle.job_queue.specs.QueueShown.{IsQueuePass};
 
 use super::step::Step;
-use job_queue::{JobQueue, QueuePass, QueueWord};
+use job_queue::{JobQueue, QueuePass, QueueState, QueueWord};
 use model_events::WaitAction;
 use std::alloc::{AllocError, Global};
 use std::sync::Wait;
@@ -31,7 +31,7 @@ impl<'q> Party<'q> {
 fn is_answered<R: Wait>(rt: &R, party: &mut Party<'_>, step: &Step, gathering: &Gathering) -> bool {
     let queue = party.queue;
     let pass = &mut party.pass;
-    let wake_one = |word: &QueueWord| gathering.wake_one(word.load());
+    let wake_one = |word: &QueueWord<'_, QueueState<u64>>| gathering.wake_one(word.load());
     match step {
         Step::Put(job, answer) => queue.put(rt, pass, *job, wake_one) == *answer,
         Step::Take(answer) => {

@@ -3,9 +3,8 @@ ghost use Rattle.job_queue.specs.QueueShown.{IsQueuePass, IsWholePass};
 
 use super::party::first_wrong;
 use super::step::Step;
-use crate::tests::give_up;
 use job_queue::{JobQueue, PutFault, QueuePass, Taken};
-use running_closures::wake_nobody;
+use model_events::WaitAction;
 use std::alloc::{AllocError, Allocator, Global};
 use std::sync::Wait;
 use std::test::Fail;
@@ -42,7 +41,7 @@ fn room_in<R: Wait, A: Allocator>(
     requires own { IsQueuePass queue.now pass.old }
 {
     for job in 0..100u64 {
-        match queue.put(rt, pass, job, wake_nobody) {
+        match queue.put(rt, pass, job, |_| ()) {
             Ok(ticket) if ticket == job => (),
             Err(PutFault::Full(back)) if back == job => return Some(job),
             _ => return None,
@@ -74,7 +73,7 @@ fn take_at_once<R: Wait>(rt: &R, queue: &JobQueue<u64>, pass: &mut QueuePass) ->
     requires own { IsQueuePass queue.now pass.old }
     ensures own { IsQueuePass queue.now pass.new }
 {
-    queue.take(rt, pass, give_up, wake_nobody)
+    queue.take(rt, pass, |_, _| WaitAction::Abort, |_| ())
 }
 
 /// Puts two jobs.
@@ -82,8 +81,8 @@ fn put_two<R: Wait>(rt: &R, queue: &JobQueue<u64>, pass: &mut QueuePass)
     requires own { IsQueuePass queue.now pass.old }
     ensures own { IsQueuePass queue.now pass.new }
 {
-    let _ = queue.put(rt, pass, 7, wake_nobody);
-    let _ = queue.put(rt, pass, 8, wake_nobody);
+    let _ = queue.put(rt, pass, 7, |_| ());
+    let _ = queue.put(rt, pass, 8, |_| ());
 }
 
 /// Puts two jobs by one half of a pass, takes one by the other, and joins them. What was taken.

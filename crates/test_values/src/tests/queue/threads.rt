@@ -2,7 +2,6 @@
 use super::party::Party;
 use job_queue::{JobQueue, Taken};
 use model_events::WaitAction;
-use running_closures::wake_nobody;
 use std::alloc::{AllocError, Global};
 use std::sync::Wait;
 use std::sync::atomic::{AtomicU64, Ordering};
@@ -18,7 +17,7 @@ const JOBS: u64 = 100;
 /// Puts the job, where there is room. Whether it was put.
 fn put<R: Wait>(rt: &R, party: &mut Party<'_>, job: u64) -> bool {
     let queue = party.queue;
-    queue.put(rt, &mut party.pass, job, wake_nobody).is_ok()
+    queue.put(rt, &mut party.pass, job, |_| ()).is_ok()
 }
 
 /// Puts the job, yielding and trying again where the queue is full; whether it was put.
@@ -47,7 +46,7 @@ fn produce<R: Wait>(rt: &R, party: &mut Party<'_>, ended: &AtomicU64) -> bool {
     let all = put_all(rt, party);
     if ended.fetch_add(1, Ordering::SeqCst) == 1 {
         let queue = party.queue;
-        queue.close(rt, &mut party.pass, wake_nobody);
+        queue.close(rt, &mut party.pass, |_| ());
     }
     all
 }
@@ -65,7 +64,7 @@ fn go_on(asked: &AtomicU64) -> WaitAction {
 /// Takes, and waits while there is no job.
 fn take<R: Wait>(rt: &R, party: &mut Party<'_>, asked: &AtomicU64) -> Taken<u64> {
     let queue = party.queue;
-    queue.take(rt, &mut party.pass, |_, _| go_on(asked), wake_nobody)
+    queue.take(rt, &mut party.pass, |_, _| go_on(asked), |_| ())
 }
 
 /// Takes until the queue is closed, and adds the tickets. Whether that was the end.

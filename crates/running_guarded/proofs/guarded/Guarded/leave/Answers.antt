@@ -1,5 +1,5 @@
 use Rattle.running_guarded.proofs.Names.{refl, sym, subst, ◌∙◌, is_to_wake, may_unlock, unlocks, unlock_is_over, Lets, PlaysUnlock}
-use Rattle.running_model.proofs.Questions.{says_of}
+use denote.Param.Always.{mut_next}
 use Rattle.running_guarded.proofs.guarded.Guarded.leave.Goals as goal
 
 pub release-turn-requires-clause-may : goal.release-turn-requires-clause-may
@@ -18,4 +18,7 @@ pub returns-clause-off : goal.returns-clause-off
 returns-clause-off g c = subst (λ s. Lets c.args.seat.me.0 s.me.0) (sym (c.end_aside.ensures.still ∙ c.wake-woken.ensures.still)) c.release-turn.ensures.off
 
 pub returns-clause-woke : goal.returns-clause-woke
-returns-clause-woke g c = record { word = _; says = says_of _ g.W.Fn _ _ _ _ (λ a e. e.met.0) c.wake-woken.ensures.woke }
+returns-clause-woke g c = record { word = _; of = c.word.ensures.object; called = c.wake-woken.ensures.woke }
+
+pub returns-clause-may_again : goal.returns-clause-may_again
+returns-clause-may_again g c = mut_next g.W.FnMut _ _ _ _ _ c.wake-woken.ensures.woke.called refl c.requires.may

@@ -1,4 +1,4 @@
-use Rattle.running_guarded.proofs.Names.{Bool, Some, sym, subst}
+use Rattle.running_guarded.proofs.Names.{Bool, subst}
 use Rattle.running_guarded.proofs.Acting.{answered}
 use Rattle.running_condvar.specs.CondShown.{HasSlept, permits_in}
 use Rattle.running_guarded.specs.Acting.{permits_of}

@@ -1,5 +1,0 @@
-use Rattle.running_semaphore.proofs.Names.{Call}
-use Rattle.running_semaphore.proofs.Semaphore.post.Given as goal
-
-abbrev pub ghosts-add : goal.ghosts-add
-ghosts-add g a = record { call = Call.Post a.value }
