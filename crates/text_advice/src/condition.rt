@@ -161,6 +161,10 @@ fn of_relation(out: &mut Vec<u8>, at: Spot<'_>, last: &[u8]) -> Told {
         let (_, value) = run_of(value, b"=", true);
         let words = b"a condition has no `=`: $f$1 $2$b";
         tell(out, at, words, &[name, value])?;
+    } else if has_mark(at.word, b"=!<>") && is_variable && has_word(at.line, b"ends") {
+        let words =
+            b"a condition has no relation: ask of each value in a question of its own, as `$2 ends and $1 1`";
+        tell(out, at, words, &[last, first])?;
     } else if has_mark(at.word, b"=!<>") && is_variable {
         let words =
             b"a condition has no relation: with a line `let bad 0` before, an item looks, as `if $1 $w $2 set bad 1`: $3 bad 1";

@@ -67,6 +67,19 @@ fn unknown_row<'t>(question: &[u8], line: &'t [u8]) -> &'t [u8] {
     b""
 }
 
+/// The word behind the first `refused` of a line.
+fn refused_row(line: &[u8]) -> &[u8] {
+    let mut rest = line;
+    for _ in 0..line.len() {
+        let (word, behind) = cut_word(rest);
+        if is(word, b"refused") {
+            return unmarked(first_word(behind));
+        }
+        rest = behind;
+    }
+    b""
+}
+
 /// The word of a row's step, where the second line does not name it. Empty where it does.
 fn unknown_word<'t>(question: &[u8], line: &'t [u8]) -> &'t [u8] {
     let (_, behind) = next_line(question).unwrap_or((b"", b""));
@@ -93,10 +106,12 @@ fn of_row(out: &mut Vec<u8>, question: &[u8], line: &[u8]) -> Added {
 
 /// Of a row whose word and rows are there.
 fn of_ways(out: &mut Vec<u8>, line: &[u8]) -> Added {
+    if has(line, b"refused") && !has(line, b"told") {
+        let words = b"a refusal says what its wait closure is told, a number or `found`: refused ";
+        return say(out, words, refused_row(line), b", told found");
+    }
     let has_test = has(line, b"is") || has(line, b"below") || has(line, b"odd");
-    out.extend_from_slice(if has(line, b"refused") && !has(line, b"told") {
-        b"a refusal says what its wait closure is told, a number or `found`: refused look, told found"
-    } else if has_test && !has(line, b"else") {
+    out.extend_from_slice(if has_test && !has(line, b"else") {
         b"a test has two ways: is 0: at take; else at look"
     } else if has(line, b"else") && !has_test {
         b"before `else` stand a test and its way: is 0: at take; else at look"
@@ -122,6 +137,8 @@ fn of_line(out: &mut Vec<u8>, question: &[u8], line: &[u8]) -> Added {
         )
     } else if has(STEPS, second) {
         of_row(out, question, line)
+    } else if has(b"cas compare_exchange cmpxchg", second) {
+        say(out, b"there is no step `", second, b"`, but `exchange`: exchange state 0 1")
     } else if second.is_empty() {
         out.extend_from_slice(b"behind a name stands the first row of a call, or the step of a row")
     } else {

@@ -95,8 +95,9 @@ pub fn is_of_question(at: Spot<'_>) -> bool {
 fn of_verb(out: &mut Vec<u8>, at: Spot<'_>) -> Added {
     let verb = nearest(verbs_of(at.object), at.word);
     let call = nearest_call(at.object, at.word);
-    let second = first_word(at.behind);
-    let joins = is_known(at.object, second) || has(b"and & && then ->", second);
+    let (second, rest) = cut_word(at.behind);
+    let goes_on = !is_no_number(second) && is_known(at.object, first_word(rest));
+    let joins = goes_on || is_known(at.object, second) || has(b"and & && then ->", second);
     if of_method(out, at, false)? {
         Ok(())
     } else if has_mark(at.word, b",;") || is_known(at.object, at.word) && joins {
