@@ -138,7 +138,12 @@ fn of_line(out: &mut Vec<u8>, question: &[u8], line: &[u8]) -> Added {
     } else if has(STEPS, second) {
         of_row(out, question, line)
     } else if has(b"cas compare_exchange cmpxchg", second) {
-        say(out, b"there is no step `", second, b"`, but `exchange`: exchange state 0 1")
+        say(
+            out,
+            b"there is no step `",
+            second,
+            b"`, but `exchange`: exchange state 0 1",
+        )
     } else if second.is_empty() {
         out.extend_from_slice(b"behind a name stands the first row of a call, or the step of a row")
     } else {
