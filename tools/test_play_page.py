@@ -174,7 +174,7 @@ class Cases:
         run(f"open_text('play', {json.dumps(read('examples/mutex-fault.txt'))}, 'pushState')")
         self.seen("a fault has no other text's picture", "fault.textContent === 'line 6: waiting\\nthe call waits at its closure, which answers `wait` or `abort`\\n' && !picture.childElementCount && through.hidden")
         run("put(['mutex 2'])")
-        self.seen("a picture without a step, from its beginning", "picture.childElementCount && !picture.scrollLeft")
+        self.seen("a picture without a step, from its beginning", "picture.childElementCount && !picture.scrollLeft && through.hidden")
         run("example.value = -1; example.onchange()")
         self.seen("a text of one's own begins empty", "job === undefined && text.value === '' && document.activeElement === text")
         run("open_text('play', 'mutex 2\\n1 lokc\\n', 'pushState')")
