@@ -7,8 +7,14 @@ mod text;
 use std::io::{BufRead, Read, Write};
 use words::words::{ROWS, depart_by};
 
+/// As bits. Where one is none it says how it is called, with status 2.
 fn rows(names: &str) -> u32 {
-    let bit = |name: &str| ROWS.iter().position(|row| *row == name).unwrap_or_else(|| panic!("no row {name}, and a text comes from standard input"));
+    let bit = |name: &str| {
+        ROWS.iter().position(|row| *row == name).unwrap_or_else(|| {
+            eprintln!("no row {name}\nout/rust < TEXT, out/amended ROW,ROW < TEXT: plays a text of one object, and prints its trace. The rows: {}", ROWS.join(" "));
+            std::process::exit(2)
+        })
+    };
     names.split(',').filter(|name| !name.is_empty()).map(|name| 1 << bit(name)).sum()
 }
 

@@ -1,4 +1,4 @@
-"""The page docs/play.html, which plays, traces, draws and explores: tools/play_page.html, the examples, and the programs as WebAssembly.
+"""The page docs/play.html, which plays, traces, draws and explores: tools/play_page.html, the page of steps, the examples, and the programs as WebAssembly.
 
     tools/play_page.py             writes it; the programs are taken from it where they are of these sources, and else proved and built
     tools/play_page.py --same      whether it is what that would write, of these sources
@@ -127,8 +127,8 @@ def kit_at_hand():
 
 def page_of(packed, total, kit):
     examples = [[kind, os.path.basename(file)[:-4], read(file)] for kind, names in (("play", "*.txt"), ("explore", "explore/*.txt")) for file in sorted(glob.glob(f"examples/{names}"))]
-    shown = json.dumps(examples, separators=(",", ":")).replace("</", "<\\/")[1:-1]
-    return read("tools/play_page.html").replace("/* examples */", shown).replace("<!-- sources -->", total).replace("<!-- kit -->", kit).replace("<!-- module -->", packed)
+    shown, steps = (json.dumps(it, separators=(",", ":")).replace("</", "<\\/") for it in (examples, read("tools/step_page.html")))
+    return read("tools/play_page.html").replace("/* examples */", shown[1:-1]).replace("/* step page */''", steps).replace("<!-- sources -->", total).replace("<!-- kit -->", kit).replace("<!-- module -->", packed)
 
 
 def main():

@@ -7,6 +7,11 @@ test_pages() {
         name=$(basename -- "$page" .html)
         attempt python3 tools/step_page.py "$(caption_of "$name")" <"docs/pictures/$name.svg"
         judge "$page" 0 "$page" /dev/null
+        if grep -qF "($(sed -n 's|.*<nav><p><a href="../\([^"]*\)".*|\1|p' "$page"))" docs/TEXT.md; then
+            succeed
+        else
+            fail "$page" "it leads to another text than docs/TEXT.md does"
+        fi
     done
     attempt python3 tools/play_page.py --same
     same=$status
@@ -20,24 +25,26 @@ test_pages() {
         return
     fi
     shows "" "" "step 1" "lock free, counter 0, nobody holds, nobody waits"
-    shows "#10" "" "step 7-10006" "lock 1 reader, mark, counter 0, holds 1 reads, nobody waits"
-    shows "#10" "press('ArrowRight'); press('ArrowDown'); press('ArrowLeft')" "step 10007" "lock 1 reader, mark, counter 0, holds 1 reads, nobody waits"
+    shows "#10" "" "step 7-10006" "lock 1 reader, mark, counter 0, party 1 reads, nobody waits"
+    shows "#10" "press('ArrowRight'); press('ArrowDown'); press('ArrowLeft')" "step 10007" "lock 1 reader, mark, counter 0, party 1 reads, nobody waits"
     shows "#10" "press('ArrowRight', { altKey: true }); press('Home', { ctrlKey: true }); press('End', { shiftKey: true })" "step 7-10006" "nobody waits"
-    shows "#10" "press('End'); press('ArrowRight')" "step 10013" "<mark>lock write</mark>, counter 1, <mark>holds 2 writes</mark>, nobody waits"
+    shows "#10" "press('End'); press('ArrowRight')" "step 10013" "<mark>lock write</mark>, counter 1, <mark>party 2 writes</mark>, nobody waits, <mark>party 2: success</mark>"
     shows "#10" "press('End'); press('Home')" "step 1" "nobody holds"
-    shows "" "runs[0].rows[2].group.onclick()" "step 3" "<mark>lock 1 reader</mark>, counter 0, <mark>holds 1 reads</mark>, nobody waits"
+    shows "" "runs[0].picture.dispatchEvent(new MouseEvent('click', { clientX: 20, clientY: runs[0].rows[2].group.getBoundingClientRect().y }))" "step 3" \
+        "<mark>lock 1 reader</mark>, counter 0, <mark>party 1 reads</mark>, nobody waits, <mark>party 1: success</mark>"
+    shows "" "press('End')" "step 10006" "found locked (exchange 0 for 1, found 1, failed); lock locked, party 1 holds, nobody waits, <mark>party 2: interrupted</mark>" \
+        docs/pages/mutex-abort.html
     shows "#3" "runs[0].told.append([slider.getAttribute('aria-valuetext'), document.querySelector('[aria-current]').getAttribute('aria-label')])" "step 3" \
-        "step 3, line 3, party 1: free → 1 reader (exchange 0 for 2, found 0, done); lock 1 reader, counter 0, holds 1 reads, nobody waits,step 3, line 3"
+        "step 3, line 3, party 1: free → 1 reader (exchange 0 for 2, found 0, done); lock 1 reader, counter 0, party 1 reads, nobody waits, party 1: success,step 3, line 3"
     page=docs/pages/rwwriter-lost-wake.html
     shows "#10008" "" "step 10008" "The Rust crate, 0.10.0: step 10008, line 7, party 1: sees 1 reader, mark" "$page"
-    shows "" "press('End'); press('ArrowLeft'); press('ArrowLeft')" "step 10011" "<mark>waiting: 2</mark>" "$page"
+    shows "" "press('End'); press('ArrowLeft'); press('ArrowLeft')" "step 10011" "<mark>party 2 waits</mark>" "$page"
     shows "" "press('End')" "step 10013" "Hevdzura: step 10013, line 8, party 2: mark → write" "$page"
-    opens "$page" "document.title = [...document.querySelectorAll('header > *')].every(it => Math.min(it.offsetHeight, it.offsetWidth) >= 44)" "" --blink-settings=primaryPointerType=2,availablePointerTypes=2
-    if grep -qF "<title>true</title>" "$room/out"; then
-        succeed
-    else
-        fail "a page's buttons" "they are too small for a finger"
-    fi
+    is_so "a page's buttons are large enough for a finger" "$page" "[...document.querySelectorAll('header > *')].every(it => Math.min(it.offsetHeight, it.offsetWidth) >= 44)" \
+        --blink-settings=primaryPointerType=2,availablePointerTypes=2
+    is_so "all that comes later is pale" "$page" "runs[0].later.getBoundingClientRect().bottom > [...document.querySelectorAll('.waiting')].find(it => it.textContent === 'asleep at a free lock').getBoundingClientRect().bottom"
+    is_so "no button leads past the ends" "$page" "back.disabled && !on.disabled && (press('End'), !back.disabled && on.disabled)"
+    is_so "a page's title, and its links where it lies alone" docs/pages/mutex-abort.html "document.title === 'A waiter gives up' && document.querySelector('nav').hidden"
     for page in docs/pages/*.html; do
         for width in 400 800 1400; do
             is_in_sight "$page" "$width"
@@ -48,12 +55,7 @@ test_pages() {
         limit=600 plays clicks
     fi
     for name in "" --force-dark-mode; do
-        opens docs/pages/rwwriter-last-look.html "document.title = getComputedStyle(document.body).backgroundColor === getComputedStyle(document.querySelector('.paper')).fill" "" $name
-        if grep -qF "<title>true</title>" "$room/out"; then
-            succeed
-        else
-            fail "a page's ground ${name:-in light}" "it is not the picture's"
-        fi
+        is_so "a page's ground is the picture's ${name:-in light}" docs/pages/rwwriter-last-look.html "getComputedStyle(document.body).backgroundColor === getComputedStyle(document.querySelector('.paper')).fill" $name
     done
 }
 
@@ -76,6 +78,16 @@ opens() {
         printf '%s\n' "<script>const press = (key, more) => dispatchEvent(new KeyboardEvent('keydown', { key, cancelable: true, ...more })); $2</script>"
     } >"$room/page.html"
     attempt chromium --headless --no-sandbox --disable-gpu --user-data-dir="$room/chromium" ${4-} --dump-dom "file://$room/page.html$3"
+}
+
+# Whether this is so in a page: is_so LABEL PAGE CONDITION [FLAG]
+is_so() {
+    opens "$2" "document.title = $3" "" ${4-}
+    if grep -qF "<title>true</title>" "$room/out"; then
+        succeed
+    else
+        fail "$1" "it is not so in $2"
+    fi
 }
 
 # A page at an address, once a script has run, shows this step and says so: shows ADDRESS SCRIPT STEP WORDS [PAGE]

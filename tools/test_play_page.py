@@ -149,6 +149,7 @@ class Cases:
             run(f"{button.format(party)}.find(it => it.textContent === '{name}').click()")
         self.seen("a holder", buttons.format(0, "unlock"))
         self.seen("a waiter", buttons.format(1, "wait abort"))
+        self.judge("what it was told", run("parties.children[1].ariaLabel"), "party 2, waits, told 1")
         run(f"{button.format(1)}[1].focus()")
         self.press("Enter")
         self.seen("a key, and where the next one goes", "document.activeElement.textContent === 'run' && text.value.endsWith('2 abort\\n')")
@@ -168,6 +169,15 @@ class Cases:
         self.seen("the browser's own back", "text.value.endsWith('2 abort\\n2 run\\n')")
         run("text.value = 'mutex 2\\n1 lokc\\n'; text.oninput()")
         self.seen("a fault", "fault.textContent.startsWith('line 2: bad line') && heard.textContent === fault.textContent && picture.classList.contains('stale')")
+        run(f"open_text('play', {json.dumps(read('examples/mutex-abort.txt'))}, 'pushState')")
+        self.seen("a picture, and its page", "picture.textContent.includes('Abort') && !through.hidden")
+        run(f"open_text('play', {json.dumps(read('examples/mutex-fault.txt'))}, 'pushState')")
+        self.seen("a fault has no other text's picture", "fault.textContent === 'line 6: waiting\\nthe call waits at its closure, which answers `wait` or `abort`\\n' && !picture.childElementCount && through.hidden")
+        run("put(['mutex 2'])")
+        self.seen("a picture without a step, from its beginning", "picture.childElementCount && !picture.scrollLeft && through.hidden")
+        run("example.value = -1; example.onchange()")
+        self.seen("a text of one's own begins empty", "job === undefined && text.value === '' && document.activeElement === text")
+        run("open_text('play', 'mutex 2\\n1 lokc\\n', 'pushState')")
         run("document.querySelector('[value=explore]').click()")
         self.seen("the other kind begins with an example", "answers.children.length === 3 && example.selectedOptions[0].textContent === 'mutex-waiter-gives-up'")
         run("document.querySelector('[value=play]').click()")
@@ -182,9 +192,11 @@ class Cases:
         self.judge("what its word holds", run("held.textContent"), "After step 2: state 1; party 1 writes.")
         run("back.click(); back.click()")
         self.judge("its table stays", run("back.disabled"), True)
-        for name, found in (("own-three-states, played", "out.textContent === '1 success\\n2 waits 2\\n1 wakes one\\n1 done\\nstate 0 failed 1\\n'"), ("own-three-states", "answers.textContent === 'never: proved, for any number of parties'")):
+        for name, found in (("own-three-states, played", "out.textContent === '1 success\\n2 waits 2\\n1 wakes one\\n1 done\\nstate 0 failed 1\\n'"), ("own-three-states", "answers.textContent === 'never: proved, for any number of parties' && says.textContent === 'There is no such schedule: proved'"), ("own-look-then-store", "says.textContent.startsWith('Two hold it') && out.textContent.startsWith('broken 2\\n1 lock\\n')")):
             run(f"example.value = [...example.querySelectorAll('[label=\"locks of your own\"] option')].find(it => it.textContent === '{name}').value; example.onchange()")
             self.seen(f"the example {name}", found)
+        run("answers.querySelector('button').click()")
+        self.seen("and how two hold it is played", "held.textContent === 'After step 6: state 1; party 1 writes, party 2 writes.'")
         run("text.value = ''; text.oninput()")
         self.judge("how else a text begins", run("['parties', 'let', 'object'].filter(it => !text.placeholder.includes(it))"), [])
 
@@ -197,10 +209,14 @@ class Cases:
         self.seen("it is played", "out.textContent.startsWith('1 success\\n') && mode() === 'play'")
         self.judge("where it is read", run("[text, picture].every(it => it.getBoundingClientRect().top >= 0 && it.getBoundingClientRect().top < innerHeight / 2)"), True)
         lit = "out.querySelector('mark')?.textContent === '2 go 1\\n' && ['falls asleep', 'sets ready 1'].every(it => picture.textContent.includes(it))"
-        for name, found in (("a lost wake", lit), ("Peterson's lock", "answers.textContent.includes('never: ')"), ("two philosophers", "out.querySelector('mark')?.textContent === '2 run\\n'")):
+        for name, found in (("a lost wake", lit), ("Peterson's lock", "answers.textContent.includes('never: ') && says.textContent === 'There is no such schedule: proved'"), ("two philosophers", "out.querySelector('mark')?.textContent === '2 run\\n'")):
             run(f"[...document.querySelectorAll('nav a')].find(it => it.textContent === {json.dumps(name)}).click()")
             self.seen(name, f"mode() === 'explore' && {found}", 60)
             if found == lit:
+                run("globalThis.open = it => { globalThis.opened = it }; answers.lastChild.click()")
+                self.seen("its page of steps", "fetch(opened).then(it => it.text()).then(it => it.includes('falls asleep') && it.includes('id=\"slider\"'))")
+                in_sight = "(({ left, top, bottom }) => it => it.left < left && it.right > left && it.bottom > top && it.top < bottom)(picture.getBoundingClientRect())"
+                self.judge("what lacks its head", run(f"[...picture.querySelectorAll('text')].filter(it => ({in_sight})(it.getBoundingClientRect())).map(it => it.textContent)"), [])
                 run("answers.querySelector('button').click()")
                 self.seen("where all was lost, once it is played", "lost.textContent.includes('line 6, 2 go 1;') && / 6 +2 /.test(trace.querySelector('mark').textContent)")
                 run("put(lines().slice(0, 5))")
