@@ -68,7 +68,8 @@ const ELSEWHERE: &[(&[u8], &[u8], &[u8])] = &[
         b"done",
         b"done",
     ),
-    (b"asleep sleeping waiting blocks", b"waits", b"waits"),
+    (b"asleep sleeping", b"sleeps for ever", b"sleeps"),
+    (b"waiting blocks", b"waits", b"waits"),
 ];
 
 /// Of a word for which a term of the object stands. Whether it is one.
@@ -194,6 +195,8 @@ fn of_stranger(out: &mut Vec<u8>, at: Spot<'_>, last: &[u8]) -> Told {
         && has(OF_PARTIES, first_word(at.behind))
     {
         none_here(out, at)?;
+    } else if is(at.word, b"two") && has_variable(at.question, last) {
+        tell(out, at, b"a number has digits alone: $f2$b", &[])?;
     } else if has(b"both two", at.word) && holds {
         of_both(out, at)?;
     } else if is(at.word, b"never") && !is_no_number(last) {
@@ -386,7 +389,7 @@ fn between(at: Spot<'_>, last: &[u8]) -> &'static [u8] {
     } else if is(last, b"race") && ends {
         b" x"
     } else if ends && is_no_number(last) && has_variable(at.question, last) {
-        b" 0"
+        either(is(first_word(at.line), b"never"), b" 1", b" 0")
     } else if is(last, b"and")
         && has(
             b"success interrupted done aborted waits holds ok full true false",
@@ -475,7 +478,8 @@ pub fn of_condition(out: &mut Vec<u8>, line: Spot<'_>) -> Added {
         if places && (has(OF_PARTIES, last) || has(b"sleeps ever", last)) {
             return of_place(out, term, last, name, rest);
         }
-        let missing = between(at, last);
+        let is_next = !first && !is_no_number(last) && has_variable(at.question, word);
+        let missing = either(is_next, b" and", between(at, last));
         if !missing.is_empty() {
             out.extend_from_slice(b"a word is missing: ")?;
             say(out, b"", before_left(at), missing)?;

@@ -129,6 +129,9 @@ fn of_line(out: &mut Vec<u8>, question: &[u8], line: &[u8]) -> Added {
         out.extend_from_slice(b"the last line asks: never two holders")
     } else if has(b"find never", first) {
         out.extend_from_slice(b"one question is asked, in the last line: never two holders")
+    } else if has(CALLS, first) && has(STEPS, second) {
+        let words = b"a call's line names its first row, and the step stands in that row's line: ";
+        say(out, words, first, b": look")
     } else if has(CALLS, first) && !second.is_empty() && !begins_a_line(question, second) {
         say(out, b"there is no row `", second, b"`")
     } else if has(CALLS, first) {

@@ -12,7 +12,7 @@ use model_events::event::{Call, Object};
 use text_lines::call::{name_of, named};
 use text_lines::command::is_known;
 use text_lines::fault::{FaultyLine, LineFault};
-use text_lines::lexer::is;
+use text_lines::lexer::{is, number_within};
 use text_lines::objects::calls_of;
 use text_lines::several::is_several;
 
@@ -151,8 +151,19 @@ pub fn of_first_line(out: &mut Vec<u8>, object: Object<()>, line: &[u8]) -> Adde
         return of_comment(out, line);
     }
     let (noun, value) = (noun(object), first_value(object, name));
-    let words = b"$1's first line has 1 to 64 parties, and $2: $w$3";
     let at = first_spot(object, b"", line);
+    let parties = first_word(at.behind);
+    if first_words(object).len() > 2 && number_within(1, 64, parties).is_ok() {
+        let words = b"$1's first line has 1 to 64 parties, and $2: $w $3 $4";
+        let is_barrier = matches!(object, Object::Barrier(_));
+        return tell(
+            out,
+            at,
+            words,
+            &[noun, value, parties, either(is_barrier, parties, b"0")],
+        );
+    }
+    let words = b"$1's first line has 1 to 64 parties, and $2: $w$3";
     tell(out, at, words, &[noun, value, first_words(object)])
 }
 
