@@ -6,7 +6,8 @@ use crate::objects::{
 };
 use crate::words::{
     Added, Spot, Told, cut, cut_word, either, first_spot, first_word, front_of, has, has_comment,
-    has_mark, is_no_number, mean, number_in, of_comment, parentheses, put, second_spot, show, tell,
+    has_mark, is_no_number, mean, number_in, of_comment, parentheses, put, say, second_spot, show,
+    tell,
 };
 use model_events::event::{Call, Object};
 use text_lines::call::{name_of, named};
@@ -151,20 +152,16 @@ pub fn of_first_line(out: &mut Vec<u8>, object: Object<()>, line: &[u8]) -> Adde
         return of_comment(out, line);
     }
     let (noun, value) = (noun(object), first_value(object, name));
+    let words = b"$1's first line has 1 to 64 parties, and $2: $w";
     let at = first_spot(object, b"", line);
+    tell(out, at, words, &[noun, value])?;
     let parties = first_word(at.behind);
-    if first_words(object).len() > 2 && number_within(1, 64, parties).is_ok() {
-        let words = b"$1's first line has 1 to 64 parties, and $2: $w $3 $4";
-        let is_barrier = matches!(object, Object::Barrier(_));
-        return tell(
-            out,
-            at,
-            words,
-            &[noun, value, parties, either(is_barrier, parties, b"0")],
-        );
+    if first_words(object).len() == 2 || number_within(1, 64, parties).is_err() {
+        return out.extend_from_slice(first_words(object));
     }
-    let words = b"$1's first line has 1 to 64 parties, and $2: $w$3";
-    tell(out, at, words, &[noun, value, first_words(object)])
+    say(out, b" ", parties, b" ")?;
+    let is_barrier = matches!(object, Object::Barrier(_));
+    out.extend_from_slice(either(is_barrier, parties, b"0"))
 }
 
 /// Of a line that a party cannot do, of whichever object.
