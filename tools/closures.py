@@ -12,7 +12,7 @@ import pathlib
 import re
 import sys
 
-LITERAL = re.compile(r"\|[^|]*\|")
+LITERAL = re.compile(r"\|[^|]+\||(?:^|[(,=&>{]\s*|\bmove )\|\|")
 CALLED = re.compile(r"(?<![\w.:])(?:running_passes::wake|wait|wakeup|wake|wake_one|wake_all|mtx_wait|mtx_wake_one|leave|act|f|make|choose)\)?\(|\b(?:wake|ask)_at_\w+\(|::call\w*\(")
 # In `running_model`, what calls one in the end. Elsewhere, another name for one.
 CALLS = re.compile(r"(?<!fn )(?<![\w.])(?:answer|call)\(")
