@@ -12,21 +12,21 @@ import pathlib
 import re
 import sys
 
-LITERAL = re.compile(r"(?:^|[(,=&>{]\s*|\bmove )\|[^|]*\|")
-CALLED = re.compile(r"(?<![\w.:])(?:running_passes::wake|wait|wakeup|wake|wake_one|wake_all|mtx_wait|mtx_wake_one|leave|act|f|make|choose)\)?\(|::call\w*\(")
+LITERAL = re.compile(r"\|[^|]+\||(?:^|[(,=&>{]\s*|\bmove )\|\|")
+CALLED = re.compile(r"(?<![\w.:])(?:running_passes::wake|wait|wakeup|wake|wake_one|wake_all|mtx_wait|mtx_wake_one|leave|act|f|make|choose)\)?\(|\b(?:wake|ask)_at_\w+\(|::call\w*\(")
 # In `running_model`, what calls one in the end. Elsewhere, another name for one.
 CALLS = re.compile(r"(?<!fn )(?<![\w.])(?:answer|call)\(")
 RENAMES = re.compile(r"\blet (?!_)\w+ = &?(?:wait|wakeup|wake|wake_one|wake_all|mtx_wait|mtx_wake_one|leave|act|f|make|choose);")
 # A step on a table or on words that is no turn's: a turn's names the rule or the object first.
 STEP = re.compile(r"(?:\.|::)(?:(?:load|store|swap|fetch_\w+|compare_exchange\w*|\w+_new_seat)::<(?!_,)|learn\()")
 SAID = re.compile(r"(?<!fn )\bspend\(|\bBy::<|::<(?:\w+, )*Brand\b|^impl\b.*\bWay<")
-# A function that could be handed on by its name: one that is told a word, as wait and wake closures are; and those of `running_closures`.
-NAMED = re.compile(r"^(?:(?:pub(?:\([^)]*\))? |const )*fn \w+(?:<.*>)?\()?(?:\w+: &(?:\w+::)*(?:\w*Word|CountedWait)|_?word: &[A-Z])\b|\brunning_closures\b")
+# A function that could be handed on by its name: one that is told a word, or a value, as wait and wake closures are; and those of `running_closures`.
+NAMED = re.compile(r"^(?:(?:pub(?:\([^)]*\))? |const )*fn \w+(?:<.*>)?\()?(?:\w+: &(?:\w+::)*(?:\w*Word|CountedWait)|_?word: &[A-Z])\b|\w: &u64\b|\brunning_closures\b")
 # What a call hands on to choose by, or to run, is its caller's.
 HANDED = re.compile(r"\.(?:choose|run)\(.*, (?!f\))\w+\)")
 COMING = re.compile(r"^ghost coming = \{ (?:λ \w+\. )?(\w+)")
-# What the running types share or hand in, which has no call of a model.
-SHARED = {"running_passes", "running_for_one", "running_sharing", "running_closures"}
+# What the running types share, which has no call of a model; and what a caller hands in.
+SHARED, HANDS_IN = {"running_passes", "running_for_one", "running_sharing"}, "running_closures"
 BEGINS = ("Beginning", "Continuing", "Choosing")
 # What makes the steps of who sleeps, and which call asks for which.
 SLEEPS = re.compile(r"\b(?:sleep|wake)_by\(|\bself\.state\.|\bself\.make_|\bword\.load\(|\bself\.(?:change|count_in|ask|park)\(")
@@ -49,9 +49,9 @@ def tells(line, is_playing):
 def found(root):
     """Each such line of the running types and of `running_model`, as `crate/src/file: line`."""
     for folder in ("running_*", "job_queue"):
-        for file in sorted(it for it in root.glob(f"crates/{folder}/src/**/*.rt") if not SHARED.intersection(it.parts)):
+        for file in sorted(it for it in root.glob(f"crates/{folder}/src/**/*.rt") if HANDS_IN not in it.parts):
             for line in map(str.strip, file.read_text().split("\n")):
-                if tells(line, "running_model" in file.parts):
+                if NAMED.search(line) if SHARED.intersection(file.parts) else tells(line, "running_model" in file.parts):
                     yield f"{file.relative_to(root / 'crates')}: {line}"
     for line in map(str.strip, (root / "crates/running_closures/src/sleepers.rt").read_text().split("\n")):
         if SLEEPS.search(line):

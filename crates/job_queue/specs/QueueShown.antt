@@ -14,6 +14,10 @@ use Rattle.running_guarded.specs.GuardedSteps.{PlaysBoth}
 use Rattle.running_guarded.specs.declared.pass.GuardedPass.{GuardedPass}
 use Rattle.running_passes.specs.Passes as passes
 use Rattle.running_passes.specs.Parts.{half, IsWhole, IsSamePart, IsAgain, AddUp}
+use Rattle.running_guarded.specs.GuardedWord as locks
+use Rattle.running_model.specs.Shown.{object_shown, index_shown}
+use Rattle.job_queue.specs.declared.word.PartWord.TheVariants.{State, Permits}
+use Rattle.job_queue.specs.declared.word.QueueWord.{QueueWord}
 use Rattle.job_queue.specs.declared.pass.QueuePass.{QueuePass}
 use Rattle.job_queue.specs.declared.queue.QueueOf.{QueueOf}
 
@@ -26,6 +30,13 @@ changed_in p = p.changed
 
 abbrev pub IsQueuePass : {S A : Type 0} → QueueOf S A → QueuePass → Type 0
 IsQueuePass q p = guards.IsGuardedPass q.state (state_in p) × conds.IsCondPass q.changed (changed_in p)
+
+-- the word of this queue's state, or of its permits, as closures see it
+abbrev pub IsStateWord : {S A : Type 0} → QueueOf S A → QueueWord S → Type 0
+IsStateWord q seen = elim seen.word [ State word ↦ locks.object_shown word.now ≡ guards.id_of q.state | Permits word ↦ ⊥ ]
+
+abbrev pub IsPermitsWord : {S A : Type 0} → QueueOf S A → QueueWord S → Type 0
+IsPermitsWord q seen = elim seen.word [ State word ↦ ⊥ | Permits word ↦ conds.IsPermitsWord q.changed (object_shown word.now) (index_shown word.now) ]
 
 -- It may have put, taken, waited and closed. A helper, a loop and a closure carry this one fact.
 pub record HasStayed (p q : QueuePass) : Type 0 where

@@ -1,17 +1,21 @@
 //! The queue that threads share.
 ghost use Rattle.std.specs.Prelude.{◌≡◌, ℕ, min, IfOk, IfErr};
-ghost use Rattle.running_passes.specs.Answers.{MayAnswer, MayAnswerAbort, HasWoken};
+ghost use Rattle.running_passes.specs.Answers.{MayAnswer, MayAnswerAbort};
+ghost use Rattle.running_model.specs.Asked.{HasWokenOf};
+ghost use Rattle.running_model.specs.Shown.{object_shown, index_shown};
+ghost use Rattle.running_guarded.specs.GuardedWord as locks;
 ghost use Rattle.running_semaphore.specs.SemaphoreShown.{IsEmpty};
-ghost use Rattle.running_condvar.specs.CondShown.{HasNotified};
-ghost use Rattle.running_guarded.specs.GuardedShown.{IsGuardedPass, HasStayed as HasStayedAtState, HasLockedOnce, view};
+ghost use Rattle.running_condvar.specs.CondShown.{HasNotified, IsPermitsWord as IsOneOfPermits};
+ghost use Rattle.running_guarded.specs.GuardedShown.{IsGuardedPass, HasStayed as HasStayedAtState, HasLockedOnce, view, id_of};
 ghost use Rattle.running_guarded.specs.GuardedSteps.{Acts, PlaysBoth};
 ghost use Rattle.job_queue.specs.Answers.{job_of, IsEmptyAnswer, IsInterrupted};
+ghost use Rattle.job_queue.specs.QueueShown.{IsStateWord, IsPermitsWord};
 ghost use Rattle.model_events.specs.declared.WaitAction.TheVariants as actions;
 
 use crate::answer::{PutFault, Taken};
 use crate::pass::QueuePass;
 use crate::state::{KeepsJobs, QueueState};
-use crate::word::QueueWord;
+use crate::word::{PartWord, QueueWord};
 use model_events::WaitAction;
 use running_condvar::ConditionVariable;
 use running_guarded::{Guarded, GuardedPass, GuardedWord};
@@ -78,8 +82,8 @@ impl<S: KeepsJobs + Drop, A: Allocator> QueueOf<S, A> {
         ensures once { HasGoneInOnce pass.old pass.new }
         ensures handed_back { IfErr result (λ fault. job_of fault ≡ job) }
         ensures unnotified { IfErr result (λ _. changed_in pass.new ≡ changed_in pass.old) }
-        ensures notified { IfOk result (λ _. HasNotified (λ waiting. min 1 waiting) (changed_in pass.old) (changed_in pass.new)) }
-        ensures woke { HasWoken K.Fn wake_one }
+        ensures notified { IfOk result (λ _. HasNotified (λ waiting. min 1 waiting) (changed_in pass.old) (changed_in pass.new) × HasWokenOf K.Fn (IsPermitsWord self.now) wake_one) }
+        ensures woke { HasWokenOf K.Fn (IsStateWord self.now) wake_one }
     {
         let put = self.go_in(
             rt,
@@ -95,7 +99,8 @@ impl<S: KeepsJobs + Drop, A: Allocator> QueueOf<S, A> {
                     &mut pass.changed,
                     |word: &SemaphoreWord<'_>|
                         requires { K.IsAlwaysCallable wake_one }
-                    { wake_at_permits(&wake_one, word) },
+                        ensures { IsOneOfPermits self.entry.now.changed (object_shown word.now) (index_shown word.now) → HasWokenOf K.Fn (IsPermitsWord self.entry.now) wake_one }
+                    { self.wake_at_permits(&wake_one, word) },
                 );
                 Ok(ticket)
             }
@@ -120,15 +125,15 @@ impl<S: KeepsJobs + Drop, A: Allocator> QueueOf<S, A> {
         ensures never_empty { ¬ IsEmptyAnswer result }
         ensures aborted { IsInterrupted result → MayAnswerAbort W.Fn wait IsEmpty }
         ensures looked_again { IsInterrupted result → HasLookedTwice pass.old pass.new }
-        ensures woke { HasWoken K.Fn wake_one }
+        ensures woke { HasWokenOf K.Fn (IsStateWord self.now) wake_one }
     {
         let taken = self.state.when(
             rt,
             &mut pass.state,
             |word: &GuardedWord<'_, S>|
                 requires { K.IsAlwaysCallable wake_one }
-                ensures { HasWoken K.Fn wake_one }
-            { wake_at_state(&wake_one, word) },
+                ensures { locks.object_shown word.now ≡ id_of self.entry.now.state → HasWokenOf K.Fn (IsStateWord self.entry.now) wake_one }
+            { self.wake_at_state(&wake_one, word) },
             &self.changed,
             &mut pass.changed,
             |word: &SemaphoreWord<'_>, seen: &u64| -> WaitAction
@@ -157,7 +162,7 @@ impl<S: KeepsJobs + Drop, A: Allocator> QueueOf<S, A> {
         ensures stayed { HasStayed pass.old pass.new }
         ensures once { HasGoneInOnce pass.old pass.new }
         ensures notified { HasNotified (λ waiting. waiting) (changed_in pass.old) (changed_in pass.new) }
-        ensures woke { HasWoken K.Fn wake_all }
+        ensures woke { HasWokenOf K.Fn (IsStateWord self.now) wake_all × HasWokenOf K.Fn (IsPermitsWord self.now) wake_all }
     {
         self.go_in(
             rt,
@@ -169,7 +174,8 @@ impl<S: KeepsJobs + Drop, A: Allocator> QueueOf<S, A> {
             &mut pass.changed,
             |word: &SemaphoreWord<'_>|
                 requires { K.IsAlwaysCallable wake_all }
-            { wake_at_permits(&wake_all, word) },
+                ensures { IsOneOfPermits self.entry.now.changed (object_shown word.now) (index_shown word.now) → HasWokenOf K.Fn (IsPermitsWord self.entry.now) wake_all }
+            { self.wake_at_permits(&wake_all, word) },
         );
     }
 
@@ -188,7 +194,7 @@ impl<S: KeepsJobs + Drop, A: Allocator> QueueOf<S, A> {
         ensures once { HasLockedOnce pass.old pass.new }
         ensures played { PlaysBoth (view pass.old) (view pass.new) }
         ensures acted { Acts F.FnOnce act result }
-        ensures woke { HasWoken K.Fn wake.now }
+        ensures woke { HasWokenOf K.Fn (IsStateWord self.now) wake.now }
     {
         let gone_in = self.state.with(
             rt,
@@ -196,14 +202,34 @@ impl<S: KeepsJobs + Drop, A: Allocator> QueueOf<S, A> {
             |_, _| go_on(),
             |word: &GuardedWord<'_, S>|
                 requires { K.IsAlwaysCallable wake.now }
-                ensures { HasWoken K.Fn wake.entry.now }
-            { wake_at_state(wake, word) },
+                ensures { locks.object_shown word.now ≡ id_of self.entry.now.state → HasWokenOf K.Fn (IsStateWord self.entry.now) wake.entry.now }
+            { self.wake_at_state(wake, word) },
             act,
         );
         match gone_in {
             WaitResult::Success(given) => given,
             WaitResult::Interrupted => unreachable!(),
         }
+    }
+
+    /// Calls the wake closure with the word of the state's lock.
+    #[inline(always)]
+    fn wake_at_state<K: Fn(&QueueWord<'_, S>)>(&self, wake: &K, word: &GuardedWord<'_, S>)
+        requires { K.IsAlwaysCallable wake.now }
+        ensures { locks.object_shown word.now ≡ id_of self.now.state → HasWokenOf K.Fn (IsStateWord self.now) wake.now }
+    {
+        let word = PartWord::State(word);
+        wake(&QueueWord { word });
+    }
+
+    /// Calls it with the word of the permits.
+    #[inline(always)]
+    fn wake_at_permits<K: Fn(&QueueWord<'_, S>)>(&self, wake: &K, word: &SemaphoreWord<'_>)
+        requires { K.IsAlwaysCallable wake.now }
+        ensures { IsOneOfPermits self.now.changed (object_shown word.now) (index_shown word.now) → HasWokenOf K.Fn (IsPermitsWord self.now) wake.now }
+    {
+        let word = PartWord::Permits(word);
+        wake(&QueueWord { word });
     }
 }
 
@@ -241,22 +267,6 @@ fn taken_of<T>(over: Over<T>) -> Taken<T>
     }
 }
 
-/// Calls the wake closure with the word of the state's lock.
-fn wake_at_state<S, K: Fn(&QueueWord<'_, S>)>(wake: &K, word: &GuardedWord<'_, S>)
-    requires { K.IsAlwaysCallable wake.now }
-    ensures { HasWoken K.Fn wake.now }
-{
-    wake(&QueueWord::of_state(word));
-}
-
-/// Calls it with the word of the permits.
-fn wake_at_permits<S, K: Fn(&QueueWord<'_, S>)>(wake: &K, word: &SemaphoreWord<'_>)
-    requires { K.IsAlwaysCallable wake.now }
-    ensures { HasWoken K.Fn wake.now }
-{
-    wake(&QueueWord::of_permits(word));
-}
-
 /// Asks the wait closure with that word.
 fn ask_at_permits<S, W: Fn(&QueueWord<'_, S>, &u64) -> WaitAction>(
     wait: &W,
@@ -266,5 +276,6 @@ fn ask_at_permits<S, W: Fn(&QueueWord<'_, S>, &u64) -> WaitAction>(
     requires { W.IsAlwaysCallable wait.now }
     ensures { MayAnswer W.Fn wait.now (λ n. n ≡ seen.now) result }
 {
-    wait(&QueueWord::of_permits(word), seen)
+    let word = PartWord::Permits(word);
+    wait(&QueueWord { word }, seen)
 }

@@ -9,12 +9,12 @@ use std::time::Duration;
 /// A word of a queue that keeps its jobs in an `S`, as wait and wake closures see it. It can be loaded and slept on, and no more.
 #[derive(Drop)]
 pub struct QueueWord<'t, S> {
-    word: PartWord<'t, S>,
+    pub(crate) word: PartWord<'t, S>,
 }
 
 /// A word of either part.
 #[derive(Drop)]
-enum PartWord<'t, S> {
+pub(crate) enum PartWord<'t, S> {
     State(&'t GuardedWord<'t, S>),
     Permits(&'t SemaphoreWord<'t>),
 }
@@ -29,23 +29,7 @@ macro_rules! with {
     };
 }
 
-impl<'t, S> QueueWord<'t, S> {
-    /// The word of the state's lock.
-    #[inline(always)]
-    pub(crate) fn of_state(word: &'t GuardedWord<'t, S>) -> QueueWord<'t, S> {
-        QueueWord {
-            word: PartWord::State(word),
-        }
-    }
-
-    /// The word of the permits.
-    #[inline(always)]
-    pub(crate) fn of_permits(word: &'t SemaphoreWord<'t>) -> QueueWord<'t, S> {
-        QueueWord {
-            word: PartWord::Permits(word),
-        }
-    }
-
+impl<S> QueueWord<'_, S> {
     /// The word as it is now. Another party may write it right after, so the answer promises nothing.
     #[inline(always)]
     pub fn load(&self) -> u64 {

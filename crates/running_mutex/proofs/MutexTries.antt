@@ -1,5 +1,5 @@
 -- What the tries of a `lock` come to, one after another.
-use Rattle.running_mutex.proofs.Names.{Bor, WaitAction, Word, View, IsWhole, part_of, sights_of, IsNamed, HasMoved, WasRefused, Holds, ◌≡◌, ℕ, ◌+◌, Bool, false, MatchBool, true≢false, ◌∙◌, [], ◌∷◌, refl, sym, ap, subst, arith, MutexPass, HasAskedToLock, IsLocked, IsAlone, Enters, HasLocked, HasSeenLocked, HasUnlocked, HasEntered, nat_tests, eqb-true, eqb-false}
+use Rattle.running_mutex.proofs.Names.{Bor, WaitAction, View, IsWhole, part_of, sights_of, HasMoved, WasRefused, Holds, ◌≡◌, ℕ, ◌+◌, Bool, false, MatchBool, true≢false, ◌∙◌, sym, ap, subst, arith, MutexPass, HasAskedToLock, IsLocked, IsAlone, Enters, HasLocked, HasSeenLocked, HasUnlocked, HasEntered, nat_tests, eqb-true, eqb-false}
 use Rattle.running_model.proofs.Attempts.{missed_once, told_after}
 use Rattle.running_model.specs.Asked.{AskedAfter}
 use Rattle.std.specs.Fn.{Mut}
@@ -31,10 +31,6 @@ asks_to_lock g IsOf shown wait after locked p q r is saw (inr a) = inr (shown, i
 pub questions : {F X : Type 0} (g : Mut F (Bor X × (Bor ℕ × Unit {0})) WaitAction) (IsOf : X → Type 0) (wait after : F) (locked : Bool) (p q : MutexPass) → HasAskedToLock g IsOf wait after locked p q → locked ≡ false → (word : X) × IsOf word × AskedAfter g word IsLocked 10001 wait after locked (Unit {0}) (sights_of p).count (sights_of q).count
 questions g IsOf wait after locked p q (inl soon) not = absurd (true≢false (sym soon.0 ∙ not))
 questions g IsOf wait after locked p q (inr asked) not = asked
-
--- the word's name
-pub state_named : (i : ℕ) → i ≡ 0 → IsNamed (Word.State ∷ []) i Word.State
-state_named i is = subst (λ (n : ℕ). IsNamed (Word.State ∷ []) n Word.State) (sym is) refl
 
 -- the hold, once it is off again
 pub alone_again : (p q : MutexPass) → HasUnlocked p q → IsWhole (part_of p) → IsAlone q

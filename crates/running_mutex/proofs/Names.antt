@@ -1,7 +1,7 @@
 -- What the proofs of this crate read of others, and of its own definitions.
-pub use Rattle.running_mutex.specs.Names.{Call, Answer, Bor, Shared, WaitAction, IsWhole, part_of, HasGivenUp, Word, Intent, Coming, MayStep, Parties, View, view, parties_of, IsShare, Told, sights_after, Beginning, ComesBy, Went, Slot, all_of, mutex_model, HoldKind, spun, MutexPlace, IsRefused, mutex_table, IsSamePass, counted, sum_of, no_holds, both_holds, holds_after, AreHoldsIn, none_played, both_played, core_played, played_add_up, mutex_intent, IsNamed, Continuing, IsHolding, Led, HasCalled, IsGranted, MayTry, IsToWake, sights_of, HasAsked, HasMoved, WasRefused, WasRefusedAt, Holds}
+pub use Rattle.running_mutex.specs.Names.{Call, Answer, Bor, WaitAction, IsWhole, part_of, Word, Intent, Coming, MayStep, Parties, View, view, parties_of, IsShare, Told, sights_after, Beginning, ComesBy, Went, Slot, all_of, mutex_model, HoldKind, spun, MutexPlace, IsRefused, mutex_table, IsSamePass, counted, sum_of, no_holds, both_holds, holds_after, AreHoldsIn, none_played, both_played, core_played, played_add_up, mutex_intent, Continuing, IsHolding, Led, HasCalled, IsGranted, MayTry, IsToWake, sights_of, HasMoved, WasRefused, Holds}
 pub use Rattle.running_mutex.specs.MutexParties.{HasMutex, Unlocks}
-pub use Rattle.running_mutex.specs.MutexShown.{MutexPass, IsLocked, HasEntered, HasUnlocked, HasPlayed, HasLocked, HasSeenLocked, HasTried, IsAlone, HasPlayedUnlock, HasAskedToLock, IsItsWord, holds_of, holds_of as holds_of_pass, Enters}
+pub use Rattle.running_mutex.specs.MutexShown.{MutexPass, IsLocked, HasEntered, HasUnlocked, HasPlayed, HasLocked, HasSeenLocked, IsAlone, HasPlayedUnlock, HasAskedToLock, IsItsWord, holds_of as holds_of_pass, Enters}
 pub use Rattle.running_model.proofs.Over.{is_over, either_is_over}
 pub use Rattle.running_model.proofs.Steps.{told_so, zero_or_not}
 pub use Rattle.running_model.proofs.Words.{hold_at}

@@ -1,5 +1,5 @@
 -- The steps of a writer-preferring lock are those of its table.
-use Rattle.running_rw_writer.proofs.Names.{MatchBool, WaitAction, Word, Call, Answer, HoldKind, Patience, Intent, After, Leaver, RwWriterPlace, rw_writer_intent, rw_writer_grant, is_blocked, try_read_look, read_look, spins, marks_or_spins, unmarks_or_leaves, write_look, write_refused, last_look, released, woken_all, is_last_reader, rw_writer_model, Slot, Parties, all_of, IsNamed, IsStepOn, Coming, Going, Beginning, Continuing, Answered, ComesBy, IsHolding, HasCalled, HasEnded, spun, IsGranted, StandsToWait, rw_writer_handed, eqb-false, eqb-true, ◌≡◌, ◌≢◌, ℕ, ◌+◌, ◌-◌, ◌%◌, ◌^◌, ◌<◌, ◌≤◌, ◌==◌, true, false, refl, sym, subst, List, [], ◌∷◌, Option, Some, None, arith, ne_eqb, is_over, nat_tests, MayLook, MayEnter, IsMarked, IsOpen, has_hold, TableHas, TableLed, CallGoes, WriteGoes, GoesFromTo, SomeCallGoes, ComesToWrite, ComesToGiveUp, WriteIsGranted, IsToWakeBoth, Unlocks, unlocked, Pass, PlayedRwWriter, parties_of}
+use Rattle.running_rw_writer.proofs.Names.{MatchBool, WaitAction, Word, Call, Answer, HoldKind, Patience, Intent, After, Leaver, RwWriterPlace, rw_writer_intent, rw_writer_grant, is_blocked, try_read_look, read_look, spins, marks_or_spins, unmarks_or_leaves, write_look, last_look, released, woken_all, is_last_reader, rw_writer_model, Slot, Parties, all_of, IsNamed, IsStepOn, Coming, Going, Beginning, Continuing, Answered, ComesBy, IsHolding, HasCalled, HasEnded, spun, IsGranted, StandsToWait, rw_writer_handed, eqb-false, eqb-true, ◌≡◌, ◌≢◌, ℕ, ◌+◌, ◌-◌, ◌%◌, ◌^◌, ◌<◌, ◌==◌, true, false, refl, sym, subst, List, [], ◌∷◌, Option, Some, None, arith, is_over, nat_tests, MayLook, MayEnter, IsMarked, IsOpen, has_hold, TableHas, TableLed, CallGoes, WriteGoes, GoesFromTo, SomeCallGoes, ComesToWrite, ComesToGiveUp, IsToWakeBoth, Unlocks, unlocked, Pass, PlayedRwWriter, parties_of}
 use Rattle.running_model.specs.Turns.{IsOver, IsOverAside, IsOverAfterTwo}
 use Rattle.running_model.proofs.Holding.{holding_told, holding_is}
 
@@ -88,19 +88,7 @@ comes_to_enter patience seen done p h1 h2 = grind (arith, nat_tests, eqb-true, e
 pub may_enter : (patience : Patience) (seen : ℕ) (done : List (Slot ℕ)) (p : Parties ℕ) → WriteGoes (After.At (RwWriterPlace.Enter seen patience)) done p → (put : ℕ) → put ≡ 2 ^ 64 - 1 → TableHas Going 0 (λ w. Intent.Exchange w seen put) p
 may_enter patience seen done p at put is = may_exchange Going Call.WriteLock (RwWriterPlace.Enter seen patience) done p seen (2 ^ 64 - 1) put is refl at
 
-pub enter_refused : (patience : Patience) (seen : ℕ) (done : List (Slot ℕ)) (p : Parties ℕ) → 2 ≤ seen → WriteGoes (write_look patience seen) done p → WriteGoes (write_refused patience seen) done p
-enter_refused patience seen done p h1 h2 = grind (arith, nat_tests, eqb-true, eqb-false)
-
-pub entered : (patience : Patience) (seen found : ℕ) (done : List (Slot ℕ)) (p q : Parties ℕ) → seen < 2 → found ≡ seen → WriteGoes (After.At (RwWriterPlace.Enter seen patience)) done p → TableLed Going p found q → WriteIsGranted done q
-entered patience seen found done p q free is at went = grind (arith, nat_tests, eqb-true, eqb-false, enters seen free, went Call.WriteLock (RwWriterPlace.Enter seen patience) None done at)
-
-pub enter_missed : (patience : Patience) (seen found : ℕ) (done : List (Slot ℕ)) (p q : Parties ℕ) → found ≢ seen → WriteGoes (After.At (RwWriterPlace.Enter seen patience)) done p → TableLed Going p found q → WriteGoes (write_refused patience found) done q
-enter_missed patience seen found done p q miss at went = grind (arith, nat_tests, eqb-true, eqb-false, ne_eqb found seen miss, went Call.WriteLock (RwWriterPlace.Enter seen patience) None done at)
-
 -- it marks
-
-pub marks_none : (patience : Patience) (seen : ℕ) (done : List (Slot ℕ)) (p : Parties ℕ) → (seen % 2 ≡ 0 → seen ≢ 2 ^ 64 - 2 → ⊥) → WriteGoes (marks_or_spins patience seen) done p → WriteGoes (spins patience) done p
-marks_none patience seen done p h1 h2 = grind (arith, nat_tests, eqb-true, eqb-false)
 
 pub comes_to_mark : (patience : Patience) (seen : ℕ) (done : List (Slot ℕ)) (p : Parties ℕ) → seen % 2 ≡ 0 → seen ≢ 2 ^ 64 - 2 → WriteGoes (marks_or_spins patience seen) done p → WriteGoes (After.At (RwWriterPlace.Mark seen (seen + 1) patience)) done p
 comes_to_mark patience seen done p h1 h2 h3 = grind (arith, nat_tests, eqb-true, eqb-false)
@@ -162,9 +150,6 @@ pub unmark_missed : (seen found : ℕ) (p q : Parties ℕ) → IsMarked seen →
 unmark_missed seen found p q h1 h2 h3 = grind (arith, nat_tests, eqb-true, eqb-false)
 
 -- the counter's add, and the wakes
-
-pub counted : (found : ℕ) (p q : Parties ℕ) → TableLed Going p found q → (call : Call ℕ) (who : Leaver) → GoesFromTo call (After.At (RwWriterPlace.Count who)) (After.At (RwWriterPlace.WakeOne who)) p q
-counted found p q went call who = λ done at. went call (RwWriterPlace.Count who) None done at
 
 -- who has woken all is answered so
 abbrev ended_by : Leaver → Answer ℕ

@@ -3,20 +3,9 @@ use Rattle.std.specs.Borrow.{Bor}
 use Rattle.std.specs.Fn.{Mut}
 use Rattle.running_model.specs.Asked.{AskedOnce}
 use Rattle.running_model.proofs.Questions.{one, more}
-use Rattle.running_rw_writer.proofs.Names.{WaitAction, AskedCount, AskedCounts, ◌⊎◌, refl, sym, subst, ◌∙◌, true≢false, is_some, MatchBool, Sights, Pass, IsSamePass, sights_of, seen, counts_of, counted, wrote, flagged, ◌≡◌, ◌≢◌, ℕ, ◌+◌, ◌-◌, ◌%◌, ◌^◌, ◌<◌, not, Bool, true, Option, Some, None, ◌≤◌, arith, eqb-true, eqb-false, nat_tests, HasTried, HasJustSeen, HasMissedIt, MayGiveUp, HasGivenUpWriting, HasEnteredSeenFree, PlayedRwWriter, IsMarked, IsSeenByWriter, Missed, WriterIn, HasPlayedGivingUp, inl, inr}
+use Rattle.running_rw_writer.proofs.Names.{WaitAction, AskedCount, AskedCounts, ◌⊎◌, refl, sym, subst, ◌∙◌, true≢false, Sights, Pass, IsSamePass, sights_of, seen, counts_of, counted, wrote, flagged, ◌≡◌, ◌≢◌, ℕ, ◌+◌, ◌-◌, ◌%◌, ◌^◌, ◌<◌, Bool, true, Option, Some, None, arith, eqb-true, eqb-false, nat_tests, HasTried, HasJustSeen, HasMissedIt, MayGiveUp, HasGivenUpWriting, PlayedRwWriter, IsMarked, IsSeenByWriter, Missed, HasPlayedGivingUp, inl, inr}
 
 -- what a function of the lock's model says of a word, by whether it answers another word
-
-pub not_free : (seen put : ℕ) (entered : Option ℕ) (none : Bool) → (seen < 2 → entered ≡ Some put) → is_some entered ≡ not none → none ≡ true → 2 ≤ seen
-not_free seen put entered none h1 h2 h3 = grind (arith, nat_tests, eqb-true, eqb-false)
-
-pub marks_some : (seen to : ℕ) (answer : Option ℕ) → (seen % 2 ≡ 0 → seen ≢ 2 ^ 64 - 2 → answer ≡ Some (seen + 1)) → (seen % 2 ≡ 1 → answer ≡ None) → (seen ≡ 2 ^ 64 - 2 → answer ≡ None) → answer ≡ Some to →
-    (seen % 2 ≡ 0) × (seen ≢ 2 ^ 64 - 2) × (to ≡ seen + 1)
-marks_some seen to answer h1 h2 h3 h4 = grind (arith, nat_tests, eqb-true, eqb-false)
-
-pub unmarks_some : (seen to : ℕ) (answer : Option ℕ) → (seen % 2 ≡ 1 → seen ≢ 2 ^ 64 - 1 → answer ≡ Some (seen - 1)) → (seen % 2 ≡ 0 → answer ≡ None) → (seen ≡ 2 ^ 64 - 1 → answer ≡ None) → answer ≡ Some to →
-    IsMarked seen × (to ≡ seen - 1)
-unmarks_some seen to answer h1 h2 h3 h4 = grind (arith, nat_tests, eqb-true, eqb-false)
 
 pub unmarks_none : (seen : ℕ) (answer : Option ℕ) → (seen % 2 ≡ 1 → seen ≢ 2 ^ 64 - 1 → answer ≡ Some (seen - 1)) → answer ≡ None → ¬ IsMarked seen
 unmarks_none seen answer h1 h2 = grind (arith, nat_tests, eqb-true, eqb-false)
@@ -48,35 +37,11 @@ fewest n p q h1 = grind (arith, nat_tests, eqb-true, eqb-false)
 pub tried_again : (m n : ℕ) (p q r : Pass PlayedRwWriter) → HasTried m p q → HasTried n q r → HasTried (m + n) p r
 tried_again m n p q r h1 h2 = grind (arith, nat_tests, eqb-true, eqb-false)
 
--- its exchange found the value at which it has just seen that nobody holds the lock
-pub entered_now : (p q : Pass PlayedRwWriter) (seen found : ℕ) → HasJustSeen seen p → seen < 2 → found ≡ seen → IsSamePass p q → WriterIn seen (counted p) found (counted q) → HasEnteredSeenFree p q
-entered_now p q seen found h1 h2 h3 h4 h5 = grind (arith, nat_tests, eqb-true, eqb-false)
-
-pub entered_after : (n : ℕ) (p q r : Pass PlayedRwWriter) → HasTried n p q → HasEnteredSeenFree q r → HasEnteredSeenFree p r
-entered_after n p q r h1 h2 = grind (arith, nat_tests, eqb-true, eqb-false)
-
--- it gives up where it has seen that no mark is set
-pub gives_up : (p q : Pass PlayedRwWriter) (found : ℕ) → HasTried 0 p q → HasJustSeen found q → ¬ IsMarked found → MayGiveUp q → HasGivenUpWriting 0 p q
-gives_up p q found h1 h2 h3 h4 = grind (arith, nat_tests, eqb-true, eqb-false)
-
-pub gave_up_after : (m n : ℕ) (p q r : Pass PlayedRwWriter) → HasTried m p q → HasGivenUpWriting n q r → HasGivenUpWriting (m + n) p r
-gave_up_after m n p q r h1 h2 = grind (arith, nat_tests, eqb-true, eqb-false)
-
 -- nothing was counted after it
 -- a call that gave up, with less of its wakes
 pub gives_up_by : (Woke Less : Type 0) (p q : Pass PlayedRwWriter) → (Woke → Less) → HasPlayedGivingUp Woke p q → HasPlayedGivingUp Less p q
 gives_up_by Woke Less p q less (inl over) = inl over
 gives_up_by Woke Less p q less (inr wakes) = inr (wakes.0, less wakes.1)
-
-pub gave_up_still : (n : ℕ) (p q r : Pass PlayedRwWriter) → HasGivenUpWriting n p q → IsSamePass q r → counted r ≡ counted q → HasGivenUpWriting n p r
-gave_up_still n p q r h1 h2 h3 = grind (arith, nat_tests, eqb-true, eqb-false)
-
--- so a whole try ends, whichever way; or it has not ended
-pub ends_after : (m n : ℕ) (p q r : Pass PlayedRwWriter) (entered : Bool) → HasTried m p q → MatchBool entered (HasEnteredSeenFree q r) (HasGivenUpWriting n q r) → MatchBool entered (HasEnteredSeenFree p r) (HasGivenUpWriting (m + n) p r)
-ends_after m n p q r entered h1 h2 = grind (arith, nat_tests, eqb-true, eqb-false)
-
-pub tries_after : (m n : ℕ) (p q r : Pass PlayedRwWriter) (entered : Bool) → HasTried m p q → MatchBool entered (HasEnteredSeenFree q r) (HasTried n q r) → MatchBool entered (HasEnteredSeenFree p r) (HasTried (m + n) p r)
-tries_after m n p q r entered h1 h2 = grind (arith, nat_tests, eqb-true, eqb-false)
 
 -- Its questions: one before others, or none, and the last.
 module _ {F X : Type 0} (g : Mut F (Bor X × (Bor ℕ × Unit {0})) WaitAction) (shown : X) where

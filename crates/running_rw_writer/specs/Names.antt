@@ -29,8 +29,7 @@ pub use Rattle.running_rw_hold.specs.declared.hold.RwHold.{RwHold}
 pub use Rattle.running_rw_hold.specs.declared.hold.RwPass.{Ghosts}
 pub use Rattle.running_rw_hold.specs.Held.{read_holds, write_holds, Knows, same_nothing, tells_same_nothing}
 pub use Rattle.running_rw_hold.specs.RwReader.{no_holds, Holds, both_holds}
-pub use Rattle.running_rw_writer.specs.RwWriter.{read, no_more_read, written, no_more_written, flagged, nothing_marked, both_marked, lowered, AreMarkedIn, IsMarkedOrHeld, marked_sees, marked_after, marked_needed, rw_writer_model, rw_writer_handed}
+pub use Rattle.running_rw_writer.specs.RwWriter.{read, no_more_read, written, no_more_written, flagged, nothing_marked, both_marked, lowered, AreMarkedIn, IsMarkedOrHeld, marked_sees, marked_after, rw_writer_model, rw_writer_handed}
 pub use Rattle.running_rw_writer.specs.declared.marked.MarkedHolds.{MarkedHolds}
-pub use Rattle.std.specs.Prelude.{is_some}
 pub use mathlib.Core.Logic.{dite}
 pub use native.Mathlib.Decide.{ℕ_discrete}

@@ -1,5 +1,4 @@
 -- What the passes of a writer-preferring lock count, the model that it plays, and that the counts follow the run.
-use Rattle.std.specs.Prelude.{◌≡◌, ℕ, ◌+◌, ◌-◌, ◌*◌, ◌^◌, ◌<◌, ◌≤◌, ◌==◌, true, false, if◌then◌else◌, List, ◌%◌, Bool, [], ◌∷◌, Option, Some}
 use Rattle.model_events.specs.HoldCounts.{reads_in, writes_in}
 use Rattle.model_events.specs.Integers.{u64_arithmetic}
 use Rattle.model_events.specs.Past.{word_in, word_after, hold_of, Hold, PendingCall, call_of, holds_of}
@@ -15,7 +14,7 @@ use Rattle.running_model.specs.Models.{Model}
 use Rattle.running_model.specs.Passes.{StaysOnNoWord, GoesOnByActs}
 use Rattle.running_model.specs.Sums.{grants_in, grants_by, same_grants, next_grants}
 use Rattle.running_passes.specs.Tallies.{IsTally}
-use Rattle.std.proofs.Common.{inl, inr, refl, sym, subst, ◌∙◌, arith}
+use Rattle.std.proofs.Common.{◌≡◌, ℕ, ◌+◌, ◌-◌, ◌*◌, ◌^◌, ◌<◌, ◌≤◌, ◌==◌, true, false, if◌then◌else◌, List, ◌%◌, Bool, [], ◌∷◌, Option, Some, inl, inr, refl, sym, subst, ◌∙◌, arith}
 use Rattle.std.proofs.lemmas.Bool.{eqb-true, eqb-false}
 use Rattle.std.proofs.lemmas.Bool.Decides.{nat_tests}
 use Rattle.running_passes.specs.declared.part.Sights.{Sights}

@@ -1,9 +1,8 @@
 -- What a wait asked its closure, told of the whole call.
-use Rattle.std.specs.Prelude.{◌≡◌, ℕ, ◌+◌, Bool, List, [], ◌∷◌}
 use Rattle.std.specs.Borrow.{Bor}
 use Rattle.std.specs.Fn.{Mut}
 use Rattle.std.specs.List.{FoldsTo}
-use Rattle.std.proofs.Common.{refl, subst, arith, inl, inr}
+use Rattle.std.proofs.Common.{◌≡◌, ℕ, ◌+◌, Bool, List, [], ◌∷◌, refl, subst, arith, inl, inr}
 use Rattle.model_events.specs.declared.WaitAction.{WaitAction}
 use Rattle.running_model.specs.Asked.{AskedOnce, AskedAfter}
 use Rattle.running_model.proofs.Questions.{alike}

@@ -1,5 +1,5 @@
 -- What a step makes of what a pass saw and counts; and where no other pass is left, the word is what its tally comes to.
-use Rattle.running_semaphore.proofs.Names.{Word, Call, Intent, carried_out, value_told, SemaphorePlace, semaphore_table, View, looked, missed, wrote, sum_of, Parties, sights_after, Coming, Beginning, MayStep, IsWhole, IsShare, played, none_played, both_played, PlaysAndCounts, Told, SemaphoreScript, Permits, no_permits, both_permits, value_of, permits_after, ArePermitsOf, semaphore_model, ◌≡◌, ◌≢◌, ℕ, ◌+◌, ◌-◌, ◌%◌, ◌^◌, ◌<◌, ◌≤◌, List, [], ◌∷◌, ap, sym, ◌∙◌, refl, Some, arith, PlayedSemaphore, PermitsAreOfARun, took, gave, nat_tests, eqb-true, eqb-false}
+use Rattle.running_semaphore.proofs.Names.{Word, Call, Intent, carried_out, value_told, SemaphorePlace, semaphore_table, View, missed, wrote, sum_of, Parties, sights_after, Coming, Beginning, MayStep, IsWhole, IsShare, played, none_played, both_played, PlaysAndCounts, Told, SemaphoreScript, Permits, no_permits, both_permits, value_of, permits_after, ArePermitsOf, semaphore_model, ◌≡◌, ◌≢◌, ℕ, ◌+◌, ◌-◌, ◌%◌, ◌^◌, ◌<◌, ◌≤◌, List, [], ◌∷◌, ap, sym, ◌∙◌, refl, Some, arith, PlayedSemaphore, PermitsAreOfARun, took, gave, nat_tests, eqb-true, eqb-false}
 use Rattle.model_events.specs.declared.event.Act.{Act}
 use Rattle.model_events.specs.declared.event.Event.{Event}
 use Rattle.model_events.specs.Past.{word_in}
@@ -13,10 +13,6 @@ use Rattle.running_model.proofs.Steps.{told_so, found_there, done_so, missed_so}
 
 module _ (initial : ℕ) where
   -- what a step tells, by its act
-
-  pub loads : (way : Coming ℕ) (p : Parties ℕ) (found : ℕ) (v w : View Permits) → MayStep (semaphore_model initial) (Word.State ∷ []) way 0 (λ k. Intent.Load k) p →
-      Told (semaphore_model initial) sights_after permits_after way p found v w → w ≡ looked v found
-  loads way p found v w may told = told_so _ _ _ _ (λ k. Intent.Load k) p may Word.State may.named found sights_after permits_after v w told
 
   pub takes : (way : Coming ℕ) (p : Parties ℕ) (old new found : ℕ) (v w : View Permits) → MayStep (semaphore_model initial) (Word.State ∷ []) way 0 (λ k. Intent.Exchange k old new) p →
       Told (semaphore_model initial) sights_after permits_after way p found v w → found ≡ old → w ≡ wrote v (took v.tally)

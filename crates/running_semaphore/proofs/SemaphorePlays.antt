@@ -21,9 +21,6 @@ module _ (initial : ℕ) where
   pub wait_begins : (p : Parties ℕ) → Comes (Beginning Call.Wait) (Waiting (spun 0)) (all_of p) p
   wait_begins p = (refl, record { may = record { begins = refl; free = refl; values = tt }; new = refl; others = refl })
 
-  pub may_try_wait : (p : Parties ℕ) → MayWant initial (Beginning Call.TryWait) p
-  may_try_wait p = record { wanting = Trying; done = all_of p; comes = try_begins p }
-
   pub may_wait : (p : Parties ℕ) → MayWant initial (Beginning Call.Wait) p
   may_wait p = record { wanting = Waiting (spun 0); done = all_of p; comes = wait_begins p }
 

@@ -1,5 +1,5 @@
 -- What the looks and exchanges of a call come to that takes a permit.
-use Rattle.running_semaphore.proofs.Names.{IsWhole, WaitResult, IfSuccess, IfInterrupted, IsSuccess, IsInterrupted, part_of, HasSeen, HasMissed, HasDone, HasOnlySeen, value_of, ◌≡◌, ◌≢◌, ℕ, ◌-◌, ◌<◌, Bool, false, Option, Some, None, MatchBool, sym, ap, subst, ◌∙◌, arith, eqb_same, moved_later, took, SemPass, worth_of, nat_tests, eqb-true, eqb-false, SawLast, TookOne, SawNone, seen_twice, missed_once}
+use Rattle.running_semaphore.proofs.Names.{IsWhole, WaitResult, IfInterrupted, IsSuccess, IsInterrupted, part_of, HasMissed, HasDone, HasOnlySeen, value_of, ◌≡◌, ◌≢◌, ℕ, ◌-◌, Bool, false, Option, Some, None, MatchBool, sym, ap, subst, ◌∙◌, arith, eqb_same, moved_later, took, SemPass, worth_of, nat_tests, eqb-true, eqb-false, SawLast, TookOne, seen_twice, missed_once}
 use mathlib.Core.Logic.{dite}
 use native.Mathlib.Decide.{ℕ_discrete}
 
@@ -13,9 +13,6 @@ one_taken seen rest answer empty one_less is = let some : seen ≢ 0 = λ none. 
 
 -- sights
 
-pub first_saw : (seen : ℕ) (p q : SemPass) → HasSeen seen p q → (IsWhole (part_of p) → seen ≡ worth_of p) → SawLast seen p q
-first_saw seen p q h1 h2 = grind (arith, nat_tests, eqb-true, eqb-false)
-
 found_worth : (found : ℕ) (p q : SemPass) → HasOnlySeen p q → (IsWhole (part_of q) → found ≡ worth_of q) → IsWhole (part_of p) → found ≡ worth_of p
 found_worth found p q stayed exact whole = exact (subst IsWhole (sym stayed.part) whole) ∙ ap value_of stayed.counts
 
@@ -25,19 +22,10 @@ saw_again seen found p q r h1 h2 h3 h4 = grind (arith, nat_tests, eqb-true, eqb-
 
 -- no permit was there, or one was taken
 
-pub none_there : (seen : ℕ) (p q : SemPass) → SawLast seen p q → seen ≡ 0 → SawNone p q
-none_there seen p q h1 h2 = grind (arith, nat_tests, eqb-true, eqb-false)
-
 pub takes_one : (seen : ℕ) (p q r : SemPass) → SawLast seen p q → seen ≢ 0 → HasDone took q r → TookOne p r
 takes_one seen p q r h1 h2 h3 = grind (arith, nat_tests, eqb-true, eqb-false, moved_later)
 
 -- by whether it was taken, how the call answers
 
-pub if_taken : {H : Type 0} (b : Bool) (result : WaitResult H) (A B : Type 0) → MatchBool b (IsSuccess result) (IsInterrupted result) → MatchBool b A B → IfSuccess result (λ _. A) × IfInterrupted result B
-if_taken b result A B h1 h2 = grind (arith, nat_tests, eqb-true, eqb-false)
-
 pub if_not_taken : {H : Type 0} (b : Bool) (result : WaitResult H) (A : Type 0) → MatchBool b (IsSuccess result) (IsInterrupted result) → (b ≡ false → A) → IfInterrupted result A
 if_not_taken b result A h1 h2 = grind (arith, nat_tests, eqb-true, eqb-false)
-
-pub takes_some : {H : Type 0} (b : Bool) (result : WaitResult H) (n : ℕ) → MatchBool b (IsSuccess result) (IsInterrupted result) → MatchBool b (0 < n) (n ≡ 0) → 0 < n → IsSuccess result
-takes_some b result n h1 h2 h3 = grind (arith, nat_tests, eqb-true, eqb-false)

@@ -14,7 +14,7 @@ pub use Rattle.running_model.specs.Sees.{sights_after}
 pub use Rattle.running_model.specs.Slots.{Slot, Parties, all_of}
 pub use Rattle.running_model.specs.Tries.{spun, MayTry, IsToWake}
 pub use Rattle.running_model.specs.declared.played.Played.{Played}
-pub use Rattle.running_passes.specs.Answers.{HasAsked, IsSuccess, IsInterrupted, IfSuccess, IfInterrupted}
+pub use Rattle.running_passes.specs.Answers.{IsSuccess, IsInterrupted, IfInterrupted}
 pub use Rattle.running_passes.specs.Parts.{IsWhole}
 pub use Rattle.running_passes.specs.Passes.{IsSamePass, part_of, sights_of, view}
 pub use Rattle.running_passes.specs.Sights.{LooksOnceOrMisses, HasLooked}

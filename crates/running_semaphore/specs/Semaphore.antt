@@ -1,5 +1,4 @@
 -- What the passes of a semaphore count, the model that it plays, and that the counts follow the run.
-use Rattle.std.specs.Prelude.{◌≡◌, ℕ, ◌+◌, ◌-◌, ◌%◌, ◌^◌, true, List, []}
 use Rattle.model_events.specs.Integers.{u64_arithmetic}
 use Rattle.model_events.specs.Runs.{IsPast}
 use Rattle.model_events.specs.declared.event.Act.{Act}
@@ -10,7 +9,7 @@ use Rattle.running_model.specs.Models.{Model}
 use Rattle.running_model.specs.Passes.{StaysOnNoWord, GoesOnByActs}
 use Rattle.running_model.specs.Sums.{pairs_add_up}
 use Rattle.running_passes.specs.Tallies.{IsTally}
-use Rattle.std.proofs.Common.{arith, refl}
+use Rattle.std.proofs.Common.{◌≡◌, ℕ, ◌+◌, ◌-◌, ◌%◌, ◌^◌, true, List, [], arith, refl}
 use Rattle.std.proofs.lemmas.Bool.{eqb-true, eqb-false}
 use Rattle.std.proofs.lemmas.Bool.Decides.{nat_tests}
 use Rattle.running_semaphore.specs.declared.permits.Permits.{Permits}

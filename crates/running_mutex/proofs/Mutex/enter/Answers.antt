@@ -1,7 +1,7 @@
-use Rattle.running_mutex.proofs.Names.{Answer, HoldKind, Call, all_of, Beginning, spun, parties_of, mutex_model, Some, None, MatchBool, refl, sym, ap, subst, ◌∙◌, MatchBool-at_true, MatchBool-at_false, true≢false, is_over, either_is_over, HasPlayed, HasEntered, IsLocked, HasAskedToLock, IsItsWord, WasRefused}
+use Rattle.running_mutex.proofs.Names.{Answer, HoldKind, Call, all_of, Beginning, spun, parties_of, mutex_model, Some, None, MatchBool, refl, sym, subst, ◌∙◌, MatchBool-at_true, MatchBool-at_false, is_over, either_is_over, HasPlayed, HasEntered, HasAskedToLock, IsItsWord}
 use Rattle.std.proofs.Common.{inl}
 use Rattle.running_mutex.proofs.MutexPlays.{lock_begins, may_lock, lock_first, granted_has}
-use Rattle.running_mutex.proofs.MutexTries.{locks_once, ends, asks_to_lock, state_named}
+use Rattle.running_mutex.proofs.MutexTries.{locks_once, asks_to_lock}
 use Rattle.running_mutex.proofs.Mutex.enter.Goals as goal
 
 pub first-free-requires-clause-may : goal.first-free-requires-clause-may
@@ -9,18 +9,6 @@ first-free-requires-clause-may g c = λ put is. may_lock (Beginning Call.Lock) _
 
 pub try_again_by-granted-requires-clause-at : goal.try_again_by-granted-requires-clause-at
 try_again_by-granted-requires-clause-at g c = (all_of (parties_of c.args.pass.now), MatchBool-at_false _ _ c.if-free.false (lock_first _ _ _ c.first-free.ensures.tried))
-
-pub try_again_by-granted-requires-clause-own : goal.try_again_by-granted-requires-clause-own
-try_again_by-granted-requires-clause-own g c = (MatchBool-at_false _ _ c.if-free.false c.first-free.ensures.locked).0.0 ∙ c.requires.own
-
-pub try_again_by-granted-requires-clause-seen : goal.try_again_by-granted-requires-clause-seen
-try_again_by-granted-requires-clause-seen g c = ap (λ v. v.sights.last) (MatchBool-at_false _ _ c.if-free.false c.first-free.ensures.locked).1 ∙ sym c.locked.ensures
-
-pub try_again_by-granted-requires-clause-refused : goal.try_again_by-granted-requires-clause-refused
-try_again_by-granted-requires-clause-refused g c = c.locked.ensures
-
-pub try_again_by-granted-requires-clause-handed : goal.try_again_by-granted-requires-clause-handed
-try_again_by-granted-requires-clause-handed g c = λ _. state_named _ c.word.ensures.index
 
 pub end-pass-requires-clause-over : goal.end-pass-requires-clause-over
 end-pass-requires-clause-over g c = is_over mutex_model Call.Lock _ _ _ _ (MatchBool-at_true _ _ c.if-free.true (lock_first _ _ _ c.first-free.ensures.tried))
@@ -37,17 +25,11 @@ returns-then-free g c = let played = subst (λ q. HasPlayed Call.Lock Answer.Suc
   asked = inl (refl, refl);
 }
 
-pub returns-clause-entered : goal.returns-clause-entered
-returns-clause-entered g c = subst (λ q. MatchBool c.try_again_by-granted.result.0 (HasEntered c.args.pass.now q) (WasRefused IsLocked 10002 c.args.pass.now q)) (sym (c.pass-2-1.given.1 (sym c.first-free.ensures.same_borrow ∙ sym c.try_again_by-granted.ensures.same_borrow ∙ sym c.end-pass-2.ensures.same_borrow) ∙ c.end-pass-2.ensures.still)) (ends _ c.args.pass.now c.first-free.result.1.pass.now c.try_again_by-granted.result.1.pass.now (MatchBool-at_false _ _ c.if-free.false c.first-free.ensures.locked) c.try_again_by-granted.ensures.told)
-
 pub returns-clause-played : goal.returns-clause-played
 returns-clause-played g c = subst (λ q. MatchBool c.try_again_by-granted.result.0 (HasPlayed Call.Lock Answer.Success (Some HoldKind.Write) c.args.pass.now q) (HasPlayed Call.Lock Answer.Interrupted None c.args.pass.now q)) (sym (c.pass-2-1.given.1 (sym c.first-free.ensures.same_borrow ∙ sym c.try_again_by-granted.ensures.same_borrow ∙ sym c.end-pass-2.ensures.same_borrow) ∙ c.end-pass-2.ensures.still)) (c.try_again_by-granted.ensures.over (all_of (parties_of c.args.pass.now)) (MatchBool-at_false _ _ c.if-free.false (lock_first _ _ _ c.first-free.ensures.tried)))
 
 pub returns-clause-has : goal.returns-clause-has
 returns-clause-has g c = λ granted. granted_has Call.Lock (parties_of c.args.pass.now) _ (MatchBool-at_true _ _ granted (returns-clause-played g c))
-
-pub returns-clause-exact : goal.returns-clause-exact
-returns-clause-exact g c = λ alone. absurd (true≢false (sym (c.first-free.ensures.exact alone) ∙ c.if-free.false))
 
 pub returns-clause-asked : goal.returns-clause-asked
 returns-clause-asked g c = subst (λ q. HasAskedToLock g.W.FnMut (λ word. IsItsWord c.args.self.now (g.X.Shown.object word) (g.X.Shown.index word)) c.args.wait c.try_again_by-granted.result.2 c.try_again_by-granted.result.0 c.args.pass.now q) (sym (c.pass-2-1.given.1 (sym c.first-free.ensures.same_borrow ∙ sym c.try_again_by-granted.ensures.same_borrow ∙ sym c.end-pass-2.ensures.same_borrow) ∙ c.end-pass-2.ensures.still))

@@ -1,13 +1,7 @@
-use Rattle.running_mutex.proofs.Names.{◌≡◌, refl, sym, subst, ◌∙◌, MatchBool-at_true, MatchBool-at_false, true≢false}
+use Rattle.running_mutex.proofs.Names.{◌≡◌, refl, sym, subst, ◌∙◌, MatchBool-at_false, true≢false}
 use Rattle.running_model.proofs.Questions.{aborted_by, asked_by}
 use Rattle.running_mutex.proofs.MutexTries.{questions}
 use Rattle.running_mutex.proofs.Mutex.lock.Goals as goal
-
-pub invariant_of-pass : goal.invariant_of-pass
-invariant_of-pass g c = record { on = (MatchBool-at_true _ _ c.if-locked.true c.enter-locked.ensures.entered).counts.on; has = c.enter-locked.ensures.has c.if-locked.true }
-
-pub returns-then-locked : goal.returns-then-locked
-returns-then-locked g c = ((refl, λ _. refl, tt), record { refused = tt; same_borrow = refl; granted = MatchBool-at_true _ _ c.if-locked.true c.enter-locked.ensures.entered; played = MatchBool-at_true _ _ c.if-locked.true c.enter-locked.ensures.played; exact = λ _. tt; aborted = tt })
 
 pub returns-else-locked : goal.returns-else-locked
 returns-else-locked g c =

@@ -5,9 +5,6 @@ use Rattle.running_mutex.proofs.Mutex.release.Goals as goal
 pub store-requires-clause-may : goal.store-requires-clause-may
 store-requires-clause-may g c = may_unlock _ c.requires.has
 
-pub store-requires-clause-needs : goal.store-requires-clause-needs
-store-requires-clause-needs g c = λ name found named. c.requires.on
-
 pub returns-clause-released : goal.returns-clause-released
 returns-clause-released g c = stores _ c.args.turn.pass.now c.store.result.pass.now (may_unlock _ c.requires.has) c.store.ensures.same c.requires.on c.store.ensures.stepped.acted.told
 

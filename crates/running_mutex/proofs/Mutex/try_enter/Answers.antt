@@ -1,9 +1,6 @@
 use Rattle.running_mutex.proofs.Names.{Answer, HoldKind, Call, parties_of, mutex_model, MatchBool, Some, None, sym, subst, ◌∙◌, MatchBool-at_true, either_is_over, HasPlayed, HasMutex}
-use Rattle.running_mutex.proofs.MutexPlays.{may_try_lock, try_ends, granted_has}
+use Rattle.running_mutex.proofs.MutexPlays.{try_ends, granted_has}
 use Rattle.running_mutex.proofs.Mutex.try_enter.Goals as goal
-
-pub first-free-requires-clause-may : goal.first-free-requires-clause-may
-first-free-requires-clause-may g c = λ put is. may_try_lock _ put is
 
 pub returns-clause-played : goal.returns-clause-played
 returns-clause-played g c = let t = c.first-free.ensures.tried in subst (λ q. MatchBool c.first-free.result.0 (HasPlayed Call.TryLock Answer.Success (Some HoldKind.Write) c.args.pass.now q) (HasPlayed Call.TryLock Answer.Interrupted None c.args.pass.now q)) (sym (c.pass-1.given.1 (sym c.first-free.ensures.same_borrow ∙ sym c.end-pass.ensures.same_borrow) ∙ c.end-pass.ensures.still)) (try_ends _ t.0 _ _ t.1 t.2)

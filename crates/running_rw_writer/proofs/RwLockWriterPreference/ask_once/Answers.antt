@@ -1,4 +1,4 @@
-use Rattle.running_rw_writer.proofs.AnswerNames.{HasEnteredSeenFree, HasTried, WaitAction, Pass, Answered, parties_of, spun, ◌∙◌, sym, ap, inr, subst, arith, MatchBool, PlayedRwWriter, ComesToWrite, ComesToGiveUp, fewest, tries_after, stands, goes_on, stands_to_wait, continued, aborted}
+use Rattle.running_rw_writer.proofs.AnswerNames.{WaitAction, Pass, Answered, parties_of, spun, ◌∙◌, sym, ap, inr, subst, arith, PlayedRwWriter, ComesToWrite, ComesToGiveUp, stands, goes_on, stands_to_wait, continued, aborted}
 use Rattle.running_model.specs.Turns.{action_in}
 use Rattle.running_model.proofs.Questions.{still_of, answers_so}
 use Rattle.running_rw_writer.proofs.RwLockWriterPreference.ask_once.Goals as goal
@@ -33,13 +33,3 @@ returns-in-Abort-clause-aborted g c = (c.look_last-count.result.0, omega arith, 
 
 pub returns-clause-played : goal.returns-clause-played
 returns-clause-played g c = λ done at. c.enter_or_mark_from-entered.ensures.played 10000 done (goes_on c.look_last-count.result.0 c.look_last-count.result.1 (spun 10000) done (parties_of c.look_last-count.result.2.pass.now) (sym c.is_blocked.ensures ∙ c.if-is_blocked.false) (c.look_last-count.ensures.looked (spun 10000) done at))
-
-pub returns-in-Continue-clause-entered : goal.returns-in-Continue-clause-entered
-returns-in-Continue-clause-entered g c = tries_after 0 1 _ _ _ _ (fewest 1 _ _ c.look_last-count.ensures.tried)
-    (subst (λ (p : Pass PlayedRwWriter). MatchBool c.enter_or_mark-entered.result.0 (HasEnteredSeenFree p c.enter_or_mark-entered.result.1.pass.now) (HasTried 1 p c.enter_or_mark-entered.result.1.pass.now)) (still_of _ _ _ c.in-Continue.is c.ask-answer.ensures.still) c.enter_or_mark-entered.ensures.entered)
-
-pub returns-in-Abort-clause-looked : goal.returns-in-Abort-clause-looked
-returns-in-Abort-clause-looked g c = subst (λ (p : Pass PlayedRwWriter). HasTried 1 c.args.turn.pass.now p) (sym (still_of _ _ _ c.in-Abort.is c.ask-answer.ensures.still)) c.look_last-count.ensures.tried
-
-pub returns-clause-entered : goal.returns-clause-entered
-returns-clause-entered g c = tries_after 1 0 _ _ _ _ c.look_last-count.ensures.tried c.enter_or_mark_from-entered.ensures.entered

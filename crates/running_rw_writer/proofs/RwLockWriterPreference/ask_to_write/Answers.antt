@@ -1,4 +1,4 @@
-use Rattle.running_rw_writer.proofs.AnswerNames.{Call, Answer, HoldKind, Pass, parties_of, rw_writer_model, Some, ◌∙◌, sym, subst, MatchBool-at_true, MatchBool-at_false, is_over, PlayedRwWriter, WriteIsGranted, HasEnteredSeenFree, fewest, tried_again, entered_after, ends_after, true, inl, refl, asked_on, asked_last}
+use Rattle.running_rw_writer.proofs.AnswerNames.{Call, Answer, HoldKind, Pass, parties_of, rw_writer_model, Some, ◌∙◌, sym, subst, MatchBool-at_true, MatchBool-at_false, is_over, PlayedRwWriter, WriteIsGranted, fewest, tried_again, true, inl, refl, asked_on, asked_last}
 use Rattle.running_rw_writer.proofs.RwLockWriterPreference.ask_to_write.Goals as goal
 
 pub end-requires-clause-over : goal.end-requires-clause-over
@@ -7,14 +7,8 @@ end-requires-clause-over g c = let w = c.requires.at in is_over rw_writer_model 
 pub enter_or_give_up-entered-requires-clause-at : goal.enter_or_give_up-entered-requires-clause-at
 enter_or_give_up-entered-requires-clause-at g c = let w = c.requires.at in (w.0, c.in-Err.ensures.stood w.0 (c.loop.invariant.at w.0 w.1))
 
-pub returns-then-entered-clause-entered : goal.returns-then-entered-clause-entered
-returns-then-entered-clause-entered g c = subst (λ (q : Pass PlayedRwWriter). HasEnteredSeenFree c.args.turn.pass.now q) (sym c.end.ensures.still) (entered_after 0 _ _ _ c.loop.invariant.tried (MatchBool-at_true _ _ c.if-entered.true c.in-Ok.ensures.entered))
-
 pub returns-then-entered-clause-played : goal.returns-then-entered-clause-played
 returns-then-entered-clause-played g c = λ done at. subst (λ (q : Pass PlayedRwWriter). WriteIsGranted done (parties_of q)) (sym c.end.ensures.still) (MatchBool-at_true _ _ c.if-entered.true (c.in-Ok.ensures.played done (c.loop.invariant.at done at)))
-
-pub returns-in-Err-clause-entered : goal.returns-in-Err-clause-entered
-returns-in-Err-clause-entered g c = ends_after 1 1 _ _ _ _ (tried_again 0 1 _ _ _ c.loop.invariant.tried c.in-Err.ensures.looked) c.enter_or_give_up-entered.ensures.entered
 
 pub returns-in-Err-clause-played : goal.returns-in-Err-clause-played
 returns-in-Err-clause-played g c = λ done at. c.enter_or_give_up-entered.ensures.played done (c.in-Err.ensures.stood done (c.loop.invariant.at done at))

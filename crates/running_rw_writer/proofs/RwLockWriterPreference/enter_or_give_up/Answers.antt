@@ -1,4 +1,4 @@
-use Rattle.running_rw_writer.proofs.AnswerNames.{HasEnteredSeenFree, Call, Answer, HoldKind, Pass, parties_of, rw_writer_model, Some, sym, subst, is_over, PlayedRwWriter, given_up, WriteIsGranted, entered_after, tried_again, gave_up_after}
+use Rattle.running_rw_writer.proofs.AnswerNames.{Call, Answer, HoldKind, Pass, parties_of, rw_writer_model, Some, sym, subst, is_over, PlayedRwWriter, given_up, WriteIsGranted}
 use Rattle.running_rw_writer.proofs.RwLockWriterPreference.enter_or_give_up.Goals as goal
 
 pub enter_if_free-requires-clause-at : goal.enter_if_free-requires-clause-at
@@ -15,9 +15,3 @@ returns-in-Ok-clause-played g c = λ done comes. subst (λ (q : Pass PlayedRwWri
 
 pub returns-in-Err-clause-played : goal.returns-in-Err-clause-played
 returns-in-Err-clause-played g c = λ done comes. c.give_up.ensures.played done (c.in-Err.ensures.goes_on given_up done (c.look_to_write-seen.ensures.looked given_up done comes))
-
-pub returns-in-Ok-clause-entered : goal.returns-in-Ok-clause-entered
-returns-in-Ok-clause-entered g c = subst (λ (q : Pass PlayedRwWriter). HasEnteredSeenFree c.args.turn.pass.now q) (sym c.end.ensures.still) (entered_after 1 _ _ _ c.look_to_write-seen.ensures.tried c.in-Ok.ensures.entered)
-
-pub returns-in-Err-clause-entered : goal.returns-in-Err-clause-entered
-returns-in-Err-clause-entered g c = gave_up_after 1 0 _ _ _ (tried_again 1 0 _ _ _ c.look_to_write-seen.ensures.tried c.in-Err.ensures.refused.0) c.give_up.ensures.gave_up

@@ -1,4 +1,4 @@
-use Rattle.running_rw_writer.proofs.AnswerNames.{spun, tries_after}
+use Rattle.running_rw_writer.proofs.AnswerNames.{spun}
 use Rattle.running_rw_writer.proofs.RwLockWriterPreference.enter_or_mark_from.Goals as goal
 
 pub mark_or_enter-requires-clause-at : goal.mark_or_enter-requires-clause-at
@@ -6,9 +6,3 @@ mark_or_enter-requires-clause-at g c = let w = c.requires.at in (w.0, w.1, c.in-
 
 pub returns-in-Ok-clause-played : goal.returns-in-Ok-clause-played
 returns-in-Ok-clause-played g c = λ n done at. c.in-Ok.ensures.granted (spun n) done at
-
-pub returns-in-Err-clause-played : goal.returns-in-Err-clause-played
-returns-in-Err-clause-played g c = λ n done at. c.mark_or_enter.ensures.played n done (c.in-Err.ensures.goes_on (spun n) done at)
-
-pub returns-in-Err-clause-entered : goal.returns-in-Err-clause-entered
-returns-in-Err-clause-entered g c = tries_after 0 0 _ _ _ _ c.in-Err.ensures.refused.0 c.mark_or_enter.ensures.entered

@@ -1,4 +1,4 @@
-use Rattle.running_rw_writer.proofs.AnswerNames.{Call, HoldKind, Pass, refl, sights_of, all_of, parties_of, ◌≡◌, ◌∙◌, true, sym, subst, MatchBool-at_true, PlayedRwWriter, IsMarked, has_hold, granted_has, MatchBool}
+use Rattle.running_rw_writer.proofs.AnswerNames.{Call, HoldKind, Pass, refl, all_of, parties_of, ◌≡◌, ◌∙◌, true, sym, subst, MatchBool-at_true, PlayedRwWriter, has_hold, granted_has, MatchBool}
 use Rattle.model_events.specs.declared.event.Answer.{Answer}
 use Rattle.std.proofs.Common.{Some}
 use Rattle.running_rw_writer.specs.RwWriterShown.{HasPlayed, HasPlayedGivingUp, HasWokenBoth}
@@ -10,9 +10,6 @@ returns-in-Ok-clause-has g c = λ _. subst (λ (q : Pass PlayedRwWriter). has_ho
 
 pub returns-in-Err-clause-has : goal.returns-in-Err-clause-has
 returns-in-Err-clause-has g c = λ done. subst (λ (q : Pass PlayedRwWriter). has_hold HoldKind.Write (parties_of q) ≡ true) (sym (c.pass-in-Err-1.given.1 (sym c.in-Err.ensures.same_borrow_too ∙ sym c.write_later-entered.ensures.same_borrow))) (granted_has Call.WriteLock HoldKind.Write _ _ (MatchBool-at_true _ _ done (c.write_later-entered.ensures.played (all_of (parties_of c.args.pass.now)) c.in-Err.ensures.goes_on)))
-
-pub returns-in-Err-clause-woke : goal.returns-in-Err-clause-woke
-returns-in-Err-clause-woke g c = λ no. subst (λ (q : Pass PlayedRwWriter). IsMarked (sights_of q).last → HasWokenBoth g.K.Fn g.V.Fn g.X.Shown.object g.X.Shown.index c.args.self.now c.args.wake_one.now c.args.wake_all.now) (sym (c.pass-in-Err-1.given.1 (sym c.in-Err.ensures.same_borrow_too ∙ sym c.write_later-entered.ensures.same_borrow))) (c.write_later-entered.ensures.woke no)
 
 pub returns-in-Err-clause-played : goal.returns-in-Err-clause-played
 returns-in-Err-clause-played g c = subst (λ (q : Pass PlayedRwWriter). MatchBool c.write_later-entered.result.0 (HasPlayed Call.WriteLock Answer.Success (Some HoldKind.Write) c.args.pass.now q) (HasPlayedGivingUp (HasWokenBoth g.K.Fn g.V.Fn g.X.Shown.object g.X.Shown.index c.args.self.now c.args.wake_one.now c.args.wake_all.now) c.args.pass.now q)) (sym (c.pass-in-Err-1.given.1 (sym c.in-Err.ensures.same_borrow_too ∙ sym c.write_later-entered.ensures.same_borrow))) (c.write_later-entered.ensures.played (all_of (parties_of c.args.pass.now)) c.in-Err.ensures.goes_on)

@@ -1,14 +1,7 @@
-use Rattle.running_semaphore.proofs.Names.{◌∙◌, refl, seen_twice, missed_once}
-use Rattle.running_model.proofs.Attempts.{seen_none}
+use Rattle.running_semaphore.proofs.Names.{◌∙◌, seen_twice, missed_once}
 use Rattle.running_semaphore.proofs.SemaphorePlays.{may_take, looked_again, took_one, found_none}
-use Rattle.running_semaphore.proofs.SemaphoreTakes.{none_left, one_taken, saw_again, none_there, takes_one}
+use Rattle.running_semaphore.proofs.SemaphoreTakes.{none_left, one_taken, saw_again, takes_one}
 use Rattle.running_semaphore.proofs.Semaphore.take_from.Goals as goal
-
-pub loop-init : goal.loop-init
-loop-init g c = record { same_borrow = refl; stayed = seen_none _; saw = λ p saw. saw; at = λ wanting done at. at }
-
-pub returns-in_default-clause-takes : goal.returns-in_default-clause-takes
-returns-in_default-clause-takes g c = λ p saw. none_there _ p c.loop.next.pass.now (c.loop.invariant.saw p saw) (none_left _ _ c.taken.ensures.open c.in_default.not-Some)
 
 pub returns-in_default-clause-wanted : goal.returns-in_default-clause-wanted
 returns-in_default-clause-wanted g c = λ wanting done at. found_none _ wanting c.loop.last done _ (none_left _ _ c.taken.ensures.open c.in_default.not-Some) (c.loop.invariant.at wanting done at)

@@ -1,6 +1,5 @@
 use Rattle.running_semaphore.proofs.Names.{Waiting, MatchBool-at_true, MatchBool-at_false}
 use Rattle.running_semaphore.proofs.SemaphorePlays.{may_try, may_look, looked}
-use Rattle.running_semaphore.proofs.SemaphoreTakes.{first_saw}
 use Rattle.running_semaphore.proofs.SemaphoreAttemptU64SemaphoreScriptSemaphorePlaceU64Permits.attempt.Goals as goal
 
 pub look-seen-requires-clause-may : goal.look-seen-requires-clause-may
@@ -14,6 +13,3 @@ returns-then-took-clause-granted g c = λ patience done comes. MatchBool-at_true
 
 pub returns-else-took-clause-failed : goal.returns-else-took-clause-failed
 returns-else-took-clause-failed g c = λ patience done comes. MatchBool-at_false _ _ c.if-took.false (c.take_from-took.ensures.wanted (Waiting patience) done (looked _ _ _ _ _ c.look-seen.ensures.went (Waiting patience) done comes))
-
-pub returns-then-took-clause-moved : goal.returns-then-took-clause-moved
-returns-then-took-clause-moved g c = (MatchBool-at_true _ _ c.if-took.true (c.take_from-took.ensures.takes c.args.turn.pass.now (first_saw _ c.args.turn.pass.now c.look-seen.result.1.pass.now c.look-seen.ensures.saw c.look-seen.ensures.exact))).taken
