@@ -1,5 +1,5 @@
 -- What holds of a lock that guards a value whenever its rule does, and what its steps do with the value, whatever model its passes play.
-use Rattle.running_spin_lock.proofs.Names.{get_elem?, State, opening, Final, Seen, Sights, View, IsWhole, first_view, sum_of, IsCounted, Word, Event, IsPast, Model, Played, played_add_up, IsOfARun, Holds, no_holds, both_holds, AreHoldsIn, MatchBool, PlaysAndCarries, Intent, Coming, MayStep, Told, counted_in, sights_after, holds_after, ◌≡◌, ℕ, List, [], ◌∷◌, Bool, sym, refl, ap, ◌∙◌, subst, arith, Option, Some, shared_first, dite, ℕ_discrete, IsSome, IsTally, others, sum_at, sum_of_two, alone, of_a_run, hold_at, IsForOne, holds_add_up, no_holds_first, word_is_held, none_held, both_held, core_held, LiesByHolds, CarriesByHolds, ValueAgrees, OneHolder, Locks, Lets, Sees, HasValue, nat_tests, eqb-true, eqb-false}
+use Rattle.running_spin_lock.proofs.Names.{get_elem?, State, opening, Final, Seen, Sights, View, IsWhole, first_view, sum_of, IsCounted, Word, Event, IsPast, Model, Played, played_add_up, IsOfARun, Holds, no_holds, both_holds, AreHoldsIn, MatchBool, PlaysAndCarries, Intent, Coming, MayStep, Told, counted_in, sights_after, holds_after, ◌≡◌, ℕ, List, [], ◌∷◌, Bool, sym, refl, ap, ◌∙◌, subst, arith, true, Option, Some, None, shared_first, dite, ℕ_discrete, IsSome, IsTally, others, sum_at, sum_of_two, alone, of_a_run, hold_at, IsForOne, holds_add_up, no_holds_first, word_is_held, none_held, both_held, core_held, LiesByHolds, CarriesByHolds, ValueAgrees, OneHolder, Locks, Lets, Sees, HasValue, has_vacant_slot, nat_tests, eqb-true, eqb-false}
 use mathlib.Core.Option as maybe
 use Rattle.running_model.proofs.Opening as opening_runs
 
@@ -65,6 +65,10 @@ module _ {T : Type 0} where
   pub value_tried : {M Q : Type 0} (free : Bool) (see : Sights → Sights) (v w : View (Played M Q ℕ Holds)) (slots : List (ℕ × Option T)) → v.tally.counts.holds ≡ 0 → MatchBool free (Locks v w) (Sees see v w) →
       CarriesByHolds w.tally.counts slots → MatchBool free (HasValue slots) (slots ≡ [])
   value_tried free see v w slots h1 h2 h3 = grind (arith, nat_tests, eqb-true, eqb-false)
+
+  -- the one slot that is carried is empty
+  pub vacant : (slots : List (ℕ × Option T)) → has_vacant_slot slots ≡ true → slots ≡ (0, None) ∷ []
+  vacant slots h1 = grind (arith, nat_tests, eqb-true, eqb-false)
 
   -- what was found in the slot is there
   pub is_there : (slots : List (Option T)) (o : Option T) → (x : T) × (get_elem? slots 0 ≡ maybe.some (Some x)) → get_elem? slots 0 ≡ maybe.some o → IsSome o

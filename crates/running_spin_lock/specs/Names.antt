@@ -13,7 +13,7 @@ pub use Rattle.running_model.specs.Plays.{IsAt, IsHolding, HasEnded, HasCalled, 
 pub use Rattle.running_model.specs.Sees.{sights_after}
 pub use Rattle.running_model.specs.Slots.{Slot, Parties, all_of}
 pub use Rattle.running_model.specs.declared.played.Played.{Played}
-pub use Rattle.std.specs.Prelude.{ℕ, List, ◌≡◌, true, Some, None, ◌+◌, ◌<◌, Option, [], ◌∷◌, ◌≢◌, Bool, false, MatchBool, ◌⊎◌, ◌≤◌, slice_index, ◌==◌, ◌&&◌}
+pub use Rattle.std.specs.Prelude.{ℕ, List, ◌≡◌, true, Some, None, ◌+◌, ◌<◌, Option, [], ◌∷◌, ◌≢◌, Bool, false, MatchBool}
 pub use Rattle.model_events.specs.Runs.{IsPast}
 pub use Rattle.model_events.specs.declared.event.Answer.{Answer}
 pub use Rattle.model_events.specs.declared.event.Call.{Call}

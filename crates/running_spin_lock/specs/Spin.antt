@@ -1,5 +1,6 @@
 -- The model that a spin lock plays, what a pass of it knows, and what the rule over all of them says.
-use Rattle.running_spin_lock.specs.Names.{Event, Model, IsPast, SpinPlace, spin_table, KeepsSpin, u64_arithmetic, keeps_spin, spin_is_lock, IsForOne, View, Played, Holds, ℕ, List}
+use Rattle.std.specs.Prelude.{ℕ, List}
+use Rattle.running_spin_lock.specs.Names.{Event, Model, IsPast, SpinPlace, spin_table, KeepsSpin, u64_arithmetic, keeps_spin, spin_is_lock, IsForOne, View, Played, Holds}
 use Rattle.running_spin_lock.specs.declared.script.SpinScript.{SpinScript}
 use Rattle.running_spin_lock.specs.ValueRule.{HasOneHolder, GrantsAreOfARunOf}
 

@@ -1,5 +1,6 @@
 -- A party of the model that waits for a spin lock, has it, and lets it go.
-use Rattle.running_spin_lock.specs.Names.{Call, Answer, Then, HoldKind, SpinPlace, spin_table, Slot, Parties, IsAt, IsHolding, HasEnded, is_holding, ◌≡◌, ℕ, true, ◌⊎◌, List, Some, None}
+use Rattle.std.specs.Prelude.{◌≡◌, ℕ, true, ◌⊎◌, List, Some, None}
+use Rattle.running_spin_lock.specs.Names.{Call, Answer, Then, HoldKind, SpinPlace, spin_table, Slot, Parties, IsAt, IsHolding, HasEnded, is_holding}
 use Rattle.running_spin_lock.specs.Spin.{spin_model}
 
 -- the call swaps until it has the lock

@@ -1,5 +1,6 @@
 -- What contracts see of a spin lock, its pass and its guard, and what a call changes in a pass.
-use Rattle.running_spin_lock.specs.Names.{TableId, Sights, IsWhole, HasWritten, GName, Part, ◌≡◌, ℕ, ◌+◌, ◌<◌, ◌≤◌}
+use Rattle.std.specs.Prelude.{◌≡◌, ℕ, ◌+◌, ◌<◌, ◌≤◌}
+use Rattle.running_spin_lock.specs.Names.{TableId, Sights, IsWhole, HasWritten, GName, Part}
 use Rattle.running_spin_lock.specs.declared.pass.SpinPass.{SpinPass}
 use Rattle.running_spin_lock.specs.declared.guard.SpinLockGuard.{SpinLockGuard}
 use Rattle.running_spin_lock.specs.declared.spin_lock.SpinLock.{SpinLock}

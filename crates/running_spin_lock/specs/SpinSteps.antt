@@ -1,5 +1,6 @@
 -- What a step on the word of a spin lock changes in what a seat knows, and what the seat is in the model.
-use Rattle.running_spin_lock.specs.Names.{Call, Answer, HoldKind, seen, Parties, HasCalled, ℕ, Option, Some}
+use Rattle.std.specs.Prelude.{ℕ, Option, Some}
+use Rattle.running_spin_lock.specs.Names.{Call, Answer, HoldKind, seen, Parties, HasCalled}
 use Rattle.running_spin_lock.specs.Spin.{spin_model, SpinView}
 use Rattle.running_spin_lock.specs.ValueSteps.{Sees, Plays}
 use Rattle.running_spin_lock.specs.SpinParties.{Unlocks}

@@ -1,5 +1,6 @@
 -- The value moves as the holds do.
-use Rattle.running_spin_lock.specs.Names.{set, ap, arith, dite, ℕ_discrete, Table, get_elem?, keeps, takes, gives, put_back, rest, MovesByCounts, both_holds, AreHoldsIn, ℕ, ◌∷◌, Some}
+use Rattle.std.specs.Prelude.{ℕ, ◌∷◌, Some}
+use Rattle.running_spin_lock.specs.Names.{set, ap, arith, dite, ℕ_discrete, Table, get_elem?, keeps, takes, gives, put_back, rest, MovesByCounts, both_holds, AreHoldsIn}
 use mathlib.Core.Option as maybe
 use Rattle.running_spin_lock.specs.ValueRule.{LiesByHolds, CarriesByHolds}
 

@@ -1,5 +1,6 @@
 -- The rule over all passes of a lock that guards a value, and plays a model of one word.
-use Rattle.running_spin_lock.specs.Names.{get_elem?, State, Word, View, spent_view, sum_of, IsCounted, Model, Played, none_played, both_played, core_played, PlaysAndCarries, IsOfARun, Holds, no_holds, both_holds, AreHoldsIn, ◌≡◌, ℕ, List, [], ◌∷◌, slice_index, Option, Some}
+use Rattle.std.specs.Prelude.{◌≡◌, ℕ, List, [], ◌∷◌, slice_index, Option, Some}
+use Rattle.running_spin_lock.specs.Names.{get_elem?, State, Word, View, spent_view, sum_of, IsCounted, Model, Played, none_played, both_played, core_played, PlaysAndCarries, IsOfARun, Holds, no_holds, both_holds, AreHoldsIn}
 use mathlib.Core.Option as maybe
 use Rattle.running_spin_lock.specs.ValueSteps.{HasValue}
 

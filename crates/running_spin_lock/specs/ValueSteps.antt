@@ -1,5 +1,6 @@
 -- What a step on the word of a lock that guards a value, and what several change in what the seat knows that makes them.
-use Rattle.running_spin_lock.specs.Names.{Call, Answer, HoldKind, Sights, View, HasOnlyRead, HasWritten, view_of, wrote, Model, Played, Coming, HasCalled, Went, counted_in, Holds, granted, released, ◌≡◌, ◌≢◌, ℕ, List, [], ◌∷◌, Bool, true, false, ◌==◌, ◌&&◌, Option, Some, None, MatchBool}
+use Rattle.std.specs.Prelude.{◌≡◌, ◌≢◌, ℕ, List, [], ◌∷◌, Bool, true, false, ◌==◌, ◌&&◌, Option, Some, None, MatchBool}
+use Rattle.running_spin_lock.specs.Names.{Call, Answer, HoldKind, Sights, View, HasOnlyRead, HasWritten, view_of, wrote, Model, Played, Coming, HasCalled, Went, counted_in, Holds, granted, released}
 
 abbrev pub locked : View Holds → View Holds
 locked v = wrote v (granted v.tally)
